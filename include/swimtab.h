@@ -191,7 +191,8 @@ typedef enum swimtab_status {
     SWIMTAB_NOT_BACK = 73,         /* the member has not come back */
     SWIMTAB_BAD_SIZE = 74,         /* the size of a struct is not that of any version */
     SWIMTAB_BAD_MULTIPLIER = 75,   /* a multiplier of a configuration is too large */
-    SWIMTAB_SHORT_DATAGRAMS = 76   /* a configuration has datagrams of fewer than 576 bytes */
+    SWIMTAB_SHORT_DATAGRAMS = 76,  /* a configuration has datagrams of fewer than 576 bytes */
+    SWIMTAB_NO_SEED = 77           /* the seed of a configuration was never drawn: all its bytes are 0 */
 } swimtab_status;
 
 /* A member's state. SWIMTAB_NOTED is a state of views alone: an Alive at incarnation 0 gave an address, and
@@ -401,7 +402,8 @@ typedef struct swimtab_agent_config {
     uint16_t port;
     bool is_silent;   /* it only answers, joins, leaves and refutes: it probes, gossips and suspects nobody */
     bool is_uncompressed; /* it compresses nothing; else what becomes shorter by that (EnableCompression) */
-    uint8_t seed[32]; /* random bytes, of which its generator makes nonces and choices; never used twice with a key */
+    uint8_t seed[32]; /* random bytes, of which its generator makes nonces and choices; never used twice with a key,
+                       * and never all 0 */
 } swimtab_agent_config;
 
 #define SWIMTAB_AGENT_CONFIG_INIT \
@@ -422,7 +424,9 @@ enum {
     SWIMTAB_OUT_FORGOTTEN = 10, /* `count` members that were gone for long are forgotten */
     SWIMTAB_OUT_DEPARTED = 11,  /* the leave was told: the agent may be closed */
     SWIMTAB_OUT_USER = 12,      /* the bytes are another program's message */
-    SWIMTAB_OUT_USER_STATE = 13 /* the bytes are another program's state, from a member that joins if `join` */
+    SWIMTAB_OUT_USER_STATE = 13, /* the bytes are another program's state, from a member that joins if `join` */
+    SWIMTAB_OUT_INCOMPATIBLE = 14 /* the table that came over `stream` is not merged: of those that are alive in it, or
+                                   * shown, not all understand each other's versions (memberlist's verifyProtocol) */
 };
 
 /* One output of an agent. What it has not is 0. Bytes of an array past its length are unchanged by the call. */
@@ -956,10 +960,11 @@ swimtab_status swimtab_view_offer(const swimtab_view *view, bool join, const voi
  * swimtab_agent_next gives. `now` and all times are microseconds, of any clock that never goes back. The caller must
  * close the agent with swimtab_agent_close. `user` of the handle stays.
  *
- * SWIMTAB_DONE; SWIMTAB_BAD_SIZE: `config` is NULL, or its size is that of no version; SWIMTAB_NODE_THERE; the first of
- * SWIMTAB_NAME_EMPTY, .._NAME_TOO_LONG, .._BAD_ADDRESS, .._META_TOO_LONG, .._BAD_VERSIONS, .._CIPHER_TOO_LONG: the
- * label has more than 255 bytes, .._BAD_MULTIPLIER, .._SHORT_DATAGRAMS; SWIMTAB_MEMORY. Unless it is SWIMTAB_DONE the
- * handle is unchanged. If the handle is NULL, SWIMTAB_NO_NODE. */
+ * SWIMTAB_DONE; SWIMTAB_BAD_SIZE: `config` is NULL, or its size is that of no version; SWIMTAB_NODE_THERE;
+ * SWIMTAB_NO_SEED: the seed is all 0, as SWIMTAB_AGENT_CONFIG_INIT leaves it; the first of SWIMTAB_NAME_EMPTY,
+ * .._NAME_TOO_LONG, .._BAD_ADDRESS, .._META_TOO_LONG, .._BAD_VERSIONS, .._CIPHER_TOO_LONG: the label has more than
+ * 255 bytes, .._BAD_MULTIPLIER, .._SHORT_DATAGRAMS; SWIMTAB_MEMORY. Unless it is SWIMTAB_DONE the handle is unchanged.
+ * If the handle is NULL, SWIMTAB_NO_NODE. */
 swimtab_status swimtab_agent_open(swimtab_agent *agent, const swimtab_agent_config *config, uint64_t now);
 
 /* Frees the agent, and what it put out and did not give. The handle is then empty, and may be opened again. The others

@@ -646,6 +646,7 @@ const char *swimtab_fault_name(uint32_t status) {
     case 74: return "BadSize";
     case 75: return "BadMultiplier";
     case 76: return "ShortDatagrams";
+    case 77: return "NoSeed";
     default: return "Unknown";
     }
 }
@@ -708,6 +709,7 @@ const char *swimtab_fault_text(uint32_t status) {
     case 74: return "The size of a struct is not that of any version.";
     case 75: return "A multiplier of the configuration is too large.";
     case 76: return "The configuration has datagrams of fewer than 576 bytes.";
+    case 77: return "The seed of the configuration was never drawn.";
     default: return "There is no such status.";
     }
 }

@@ -1,5 +1,6 @@
-/* agent NAME ADDRESS PORT [ADDRESS PORT]..: a whole member of a memberlist cluster, as sockets and a loop. It joins by
- * the other addresses, prints what changes as `NAME EVENT INCARNATION`, and leaves at the end of its input. */
+/* agent [-s] NAME ADDRESS PORT [ADDRESS PORT]..: a whole member of a memberlist cluster, as sockets and a loop; with -s
+ * of one of Serf or Consul. It joins by the other addresses, prints `NAME EVENT INCARNATION` for each change and
+ * `incompatible` for a table of members with other versions, and leaves at the end of its input. */
 #define _GNU_SOURCE 1
 #include <arpa/inet.h>
 #include <poll.h>
@@ -17,6 +18,7 @@ static uint64_t now(void) {
     struct timespec time;
     return clock_gettime(CLOCK_MONOTONIC, &time), (uint64_t)time.tv_sec * 1000000 + (uint64_t)time.tv_nsec / 1000;
 }
+#define say(...) (poll(&(struct pollfd){1, POLLOUT, 0}, 1, 0) > 0 ? dprintf(1, __VA_ARGS__) : 0) /* unless nobody reads */
 static void replace(struct line *l, uint64_t stream, int fd) { /* ends what is there, and begins that */
     if (l->fd) swimtab_agent_closed(&agent, now(), l->stream), close(l->fd), swimtab_free(&l->out);
     *l = (struct line){.stream = stream, .fd = fd};
@@ -27,11 +29,13 @@ int main(int argc, char **argv) {
     static swimtab_agent_out out;
     swimtab_buffer bytes = SWIMTAB_BUFFER_INIT;
     swimtab_agent_config config = SWIMTAB_AGENT_CONFIG_INIT;
+    bool is_serf = argc > 1 && !strcmp(argv[1], "-s");
+    argc -= is_serf, argv += is_serf;
     if (argc < 4 || argc % 2 || sscanf(argv[3], "%hu", &config.port) != 1)
-        return fputs("agent: NAME ADDRESS PORT [ADDRESS PORT]..\n", stderr), 2;
+        return fputs("agent: [-s] NAME ADDRESS PORT [ADDRESS PORT]..\n", stderr), 2;
     struct sockaddr_in own = {AF_INET, htons(config.port), {inet_addr(argv[2])}, {0}}, from = own, to = own;
-    config.name = argv[1], config.name_len = strlen(argv[1]), config.vsn = "\1\5\2\0\0\0", config.vsn_len = 6;
-    config.addr = &own.sin_addr, config.addr_len = 4;
+    config.name = argv[1], config.name_len = strlen(argv[1]), config.addr = &own.sin_addr, config.addr_len = 4;
+    config.vsn = is_serf ? "\1\5\2\2\5\4" : "\1\5\2\0\0\0", config.vsn_len = 6;
     int input = 0, udp = socket(AF_INET, SOCK_DGRAM, 0), tcp = socket(AF_INET, SOCK_STREAM | SOCK_NONBLOCK, 0);
     setsockopt(tcp, SOL_SOCKET, SO_REUSEADDR, &(int){1}, sizeof(int));
     if (bind(udp, (void *)&own, sizeof own) || bind(tcp, (void *)&own, sizeof own) || listen(tcp, LINES) ||
@@ -53,8 +57,9 @@ int main(int argc, char **argv) {
             if (out.kind == SWIMTAB_OUT_WRITE && l->stream == out.stream) l->out = bytes, bytes = (swimtab_buffer){0};
             if (out.kind == SWIMTAB_OUT_CLOSE && l->stream == out.stream) l->ends = true;
             for (uint8_t *c = out.name; c < out.name + out.name_len; c++) *c = *c > ' ' && *c < 127 ? *c : '?';
+            if (out.kind == SWIMTAB_OUT_INCOMPATIBLE) say("incompatible\n");
             if (out.kind == SWIMTAB_OUT_CHANGED)
-                dprintf(STDOUT_FILENO, "%.*s %s %u\n", out.name_len, (char *)out.name, EVENTS[out.event], out.inc);
+                say("%.*s %s %u\n", out.name_len, (char *)out.name, EVENTS[out.event], out.inc);
             if (out.kind == SWIMTAB_OUT_DEPARTED) return swimtab_agent_close(&agent), 0;
         }
         struct pollfd fds[ALL] = {[UDP] = {udp, POLLIN, 0}, {tcp, POLLIN, 0}, {input, POLLIN, 0}};

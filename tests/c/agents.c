@@ -37,9 +37,12 @@ static void what_is_invalid_is_refused(void) {
     config.label = long_bytes, config.label_len = 256, refuses(config, SWIMTAB_CIPHER_TOO_LONG), config = config_of(0);
     config.suspicion_mult = 7, refuses(config, SWIMTAB_BAD_MULTIPLIER), config = config_of(0);
     config.udp_buffer_size = 575, refuses(config, SWIMTAB_SHORT_DATAGRAMS), config = config_of(0);
+    config.seed[0] = 0, refuses(config, SWIMTAB_NO_SEED);
+    config.name = NULL, refuses(config, SWIMTAB_NO_SEED), config = config_of(0);
     /* the longest of each is accepted */
     config.name = long_bytes, config.name_len = 1024, config.meta = long_bytes, config.meta_len = 512;
     config.label = long_bytes, config.label_len = 255, config.suspicion_mult = 6, config.udp_buffer_size = 576;
+    config.seed[0] = 0, config.seed[31] = 1;
     WANT(swimtab_agent_open(&agent, &config, 1) == SWIMTAB_DONE && swimtab_agent_close(&agent) == SWIMTAB_DONE);
 }
 
@@ -195,6 +198,30 @@ static void keys_are_rotated(void) {
     close_both();
 }
 
+/* What each speaks has to be within what both understand, of memberlist's protocol and of the program's own. */
+static void members_that_do_not_understand_each_other_stay_apart(void) {
+    static const struct { const char *versions[2]; bool is_merged; } rows[] = {
+        {{"\1\5\2\2\5\4", "\1\5\2\2\5\4"}, true},  {{"\1\5\2\0\0\0", "\1\5\2\2\5\4"}, false},
+        {{"\1\5\2\2\5\4", "\1\5\2\0\0\0"}, false}, {{"\1\5\2\2\5\4", "\2\5\5\2\5\5"}, true},
+        {{"\1\5\1\2\5\4", "\2\5\2\2\5\4"}, false}, {{"\1\4\2\2\5\4", "\1\5\5\2\5\4"}, false},
+        {{"\1\4\2\2\5\4", "\1\5\4\2\5\4"}, true},  {{"\1\5\2\2\5\2", "\1\5\2\3\5\3"}, false},
+        {{"\1\5\2\2\4\4", "\1\5\2\2\5\5"}, false}, {{"\1\5\2\2\4\4", "\1\5\2\2\5\4"}, true},
+    };
+    const char *usual = versions[0];
+    for (size_t row = 0; row < sizeof rows / sizeof *rows; row++) {
+        versions[0] = rows[row].versions[0], versions[1] = rows[row].versions[1];
+        open_both(NULL);
+        pass(9000);
+        WANT(shows(0, "n2") == (rows[row].is_merged ? SWIMTAB_ALIVE : 99));
+        WANT(shows(1, "n1") == (rows[row].is_merged ? SWIMTAB_ALIVE : 99));
+        WANT((peers[0].kinds[SWIMTAB_OUT_INCOMPATIBLE] > 0) == !rows[row].is_merged);
+        WANT(peers[0].state[0] == (rows[row].is_merged ? 's' : 0) && peers[1].kinds[SWIMTAB_OUT_INCOMPATIBLE] == 0);
+        WANT(rows[row].is_merged || peers[0].last[SWIMTAB_OUT_INCOMPATIBLE].stream % 2 == 1);
+        close_both();
+    }
+    versions[0] = versions[1] = usual;
+}
+
 static const struct test tests[] = {
     {"an agent is opened once", an_agent_is_opened_once},
     {"what is invalid is refused", what_is_invalid_is_refused},
@@ -205,6 +232,7 @@ static const struct test tests[] = {
     {"a member that is cut off is dead, and refutes", a_member_that_is_cut_off_is_dead_and_refutes},
     {"an agent leaves", an_agent_leaves},
     {"keys are rotated", keys_are_rotated},
+    {"members that do not understand each other stay apart", members_that_do_not_understand_each_other_stay_apart},
 };
 
 int main(void) {

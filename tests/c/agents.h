@@ -4,7 +4,7 @@
 
 #include "check.h"
 
-enum { LINKS = 64, KINDS = 14, EVENTS = 13 };
+enum { LINKS = 64, KINDS = 15, EVENTS = 13 };
 
 /* One end of a stream, and the other one. */
 struct end {
@@ -32,13 +32,16 @@ static inline swimtab_place place_of(size_t peer) {
     return place;
 }
 
+/* The versions of both. */
+static const char *versions[2] = {"\1\5\2\0\0\0", "\1\5\2\0\0\0"};
+
 /* The agent's configuration: its name is n1 or n2. */
 static inline swimtab_agent_config config_of(size_t peer) {
     static const uint8_t addrs[2][4] = {{127, 0, 0, 1}, {127, 0, 0, 2}};
     swimtab_agent_config config = SWIMTAB_AGENT_CONFIG_INIT;
     config.name = peer ? "n2" : "n1", config.name_len = 2;
     config.addr = addrs[peer], config.addr_len = 4, config.port = 7946;
-    config.vsn = "\1\5\2\0\0\0", config.vsn_len = 6;
+    config.vsn = versions[peer], config.vsn_len = 6;
     config.seed[0] = (uint8_t)(1 + peer);
     return config;
 }
@@ -77,7 +80,8 @@ static inline void dial(size_t peer, const swimtab_agent_out *out) {
 static inline bool has_no_more(const swimtab_agent_out *out) {
     enum { STREAM = 1, COUNT = 2, EVENT = 4, INC = 8, PROBE = 16, TO = 32, NAME = 64, BY = 128, JOIN = 256 };
     static const unsigned has[KINDS] = {0,    TO,  STREAM | TO, STREAM, STREAM, EVENT | INC | NAME | BY, PROBE | NAME,
-                                        NAME, INC, 0,           COUNT,  0,      0,                       JOIN};
+                                        NAME, INC, 0,           COUNT,  0,      0,                       JOIN,
+                                        STREAM};
     static const swimtab_agent_out none;
     const unsigned it = out->kind < KINDS ? has[out->kind] : 0;
     return (it & STREAM || !out->stream) && (it & COUNT || !out->count) && (it & EVENT || !out->event) &&

@@ -30,7 +30,7 @@ static void statuses_have_names(void) {
 /* Whether a call of the library can return this status. */
 static bool is_answered(uint32_t status) {
     return status <= 8 || (status >= 10 && status <= 25) || (status >= 40 && status <= 48) ||
-           (status >= 50 && status <= 57) || status == 59 || (status >= 64 && status <= 76);
+           (status >= 50 && status <= 57) || status == 59 || (status >= 64 && status <= 77);
 }
 
 static void statuses_have_sentences(void) {

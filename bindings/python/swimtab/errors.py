@@ -246,3 +246,7 @@ class BadMultiplier(SwimtabError, status=75):
 
 class ShortDatagrams(SwimtabError, status=76):
     """A configuration has datagrams of fewer than 576 bytes. The calls of this package do not raise it."""
+
+
+class NoSeed(SwimtabError, status=77):
+    """The seed of a configuration was never drawn. The calls of this package do not raise it."""

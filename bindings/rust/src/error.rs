@@ -9,7 +9,7 @@ pub type Result<T> = std::result::Result<T, Error>;
 macro_rules! errors {
     ($($number:literal $name:ident $text:literal)*) => {
         /// Why a call was refused: the faults of `docs/faults.md`, by their names in `swimtab.h`. This
-        /// crate never causes `NodeThere`, `TooSmall`, `BadForm` and `BadSize` to `ShortDatagrams`.
+        /// crate never causes `NodeThere`, `TooSmall`, `BadForm` and `BadSize` to `NoSeed`.
         #[derive(Clone, Copy, Debug, PartialEq, Eq, Hash)]
         #[non_exhaustive]
         pub enum Error {
@@ -111,6 +111,7 @@ errors! {
     74 BadSize "the size of a struct is not that of any version"
     75 BadMultiplier "a multiplier of the configuration is too large"
     76 ShortDatagrams "the configuration has datagrams of fewer than 576 bytes"
+    77 NoSeed "the seed of the configuration was never drawn"
 }
 
 impl std::error::Error for Error {}

@@ -1,5 +1,5 @@
 -- What stays from one call to the next stays over both.
-use Rattle.std.proofs.Common.{◌≡◌, ◌∙◌, arith}
+use Rattle.std.proofs.Common.{◌∙◌, arith}
 use Rattle.memberlist_member.specs.Staying.{Stays, StaysButProbe, StaysButTimes, StaysItself}
 use Rattle.memberlist_member.specs.declared.member.Member.{Member}
 

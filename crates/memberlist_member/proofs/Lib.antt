@@ -1,6 +1,7 @@
 mod Apart
 mod Begun
 mod Carrying
+mod Compatible
 mod Compounding
 mod Ending
 mod Entries

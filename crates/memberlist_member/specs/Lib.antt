@@ -28,4 +28,5 @@ pub mod Suspects
 pub mod Suspicions
 pub mod Tables
 pub mod Traffic
+pub mod Versions
 pub mod Viewing

@@ -2,7 +2,7 @@
 use Rattle.std.specs.Prelude.{ℕ, ◌≤◌, length}
 use Rattle.memberlist_member.specs.declared.output.Output.{Output}
 use Rattle.memberlist_member.specs.declared.output.Output.TheVariants.{Send, Dial, Write, Close, Changed, Unanswered}
-use Rattle.memberlist_member.specs.declared.output.Output.TheVariants.{Untold, Refuted, Exhausted, Forgotten, Departed, User, UserState}
+use Rattle.memberlist_member.specs.declared.output.Output.TheVariants.{Untold, Refuted, Exhausted, Forgotten, Departed, Incompatible, User, UserState}
 
 -- how many bytes the datagram has, or none if it is none
 abbrev pub datagram_len : Output → ℕ
@@ -17,6 +17,7 @@ datagram_len (Refuted inc) = 0
 datagram_len Exhausted = 0
 datagram_len (Forgotten count) = 0
 datagram_len Departed = 0
+datagram_len (Incompatible conn) = 0
 datagram_len (User bytes) = 0
 datagram_len (UserState bytes join) = 0
 

@@ -3,7 +3,7 @@ use Rattle.std.specs.Prelude.{ℕ, ◌+◌, ◌≤◌, Bool, true, false, List, 
 use Rattle.std.specs.List.{filter}
 use Rattle.memberlist_member.specs.declared.output.Output.{Output}
 use Rattle.memberlist_member.specs.declared.output.Output.TheVariants.{Send, Dial, Write, Close, Changed, Unanswered}
-use Rattle.memberlist_member.specs.declared.output.Output.TheVariants.{Untold, Refuted, Exhausted, Forgotten, Departed, User, UserState}
+use Rattle.memberlist_member.specs.declared.output.Output.TheVariants.{Untold, Refuted, Exhausted, Forgotten, Departed, Incompatible, User, UserState}
 
 -- it is a datagram
 abbrev pub is_datagram : Output → Bool
@@ -18,6 +18,7 @@ is_datagram (Refuted inc) = false
 is_datagram Exhausted = false
 is_datagram (Forgotten count) = false
 is_datagram Departed = false
+is_datagram (Incompatible conn) = false
 is_datagram (User bytes) = false
 is_datagram (UserState bytes join) = false
 
@@ -34,6 +35,7 @@ is_dial (Refuted inc) = false
 is_dial Exhausted = false
 is_dial (Forgotten count) = false
 is_dial Departed = false
+is_dial (Incompatible conn) = false
 is_dial (User bytes) = false
 is_dial (UserState bytes join) = false
 
@@ -50,6 +52,7 @@ is_write (Refuted inc) = false
 is_write Exhausted = false
 is_write (Forgotten count) = false
 is_write Departed = false
+is_write (Incompatible conn) = false
 is_write (User bytes) = false
 is_write (UserState bytes join) = false
 

@@ -14,6 +14,7 @@
 //! | `connections` | connections, and what came over them |
 //! | `lost` | members that died, and are dialled again |
 //! | `cover` | labels and encryption |
+//! | `versions` | whether members understand each other |
 //! | `place` | where a member is |
 //! | `scale` | how times and transmissions grow with the number of members |
 //! | `awareness` | how healthy a member is |
@@ -44,6 +45,7 @@ mod rounds;
 mod scale;
 mod suspicion;
 mod suspicions;
+mod versions;
 
 pub use awareness::Awareness;
 pub use compound::datagram;

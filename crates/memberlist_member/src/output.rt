@@ -63,6 +63,11 @@ pub enum Output {
     },
     /// The leave was told as often as it is to be, or for long enough.
     Departed,
+    /// The table that came over the connection is not merged: of those that are alive in it, or shown,
+    /// not all understand each other's versions.
+    Incompatible {
+        conn: u64,
+    },
     /// Another program's message.
     User {
         bytes: Vec<u8>,
@@ -149,6 +154,7 @@ impl Outputs {
             | Output::Exhausted
             | Output::Forgotten { .. }
             | Output::Departed
+            | Output::Incompatible { .. }
             | Output::User { .. }
             | Output::UserState { .. } => false,
         }

@@ -26,27 +26,27 @@ has_intervals s = record {
   reconnect = positive s.reconnect_interval default_lan.reconnect_interval (omega arith);
 }
 
-by_fault : (name : List ℕ) (details : DetailsValue) (label : List ℕ) (config : Config) (fault : ConfigFault)
-    (made : Result Config ConfigFault) → HasIntervals config → made ≡ Err fault
+by_fault : (name : List ℕ) (details : DetailsValue) (label : List ℕ) (config : Config) (seed : List ℕ)
+    (fault : ConfigFault) (made : Result Config ConfigFault) → HasIntervals config → made ≡ Err fault
     → ((made ≡ Err NoInterval) ↔ (¬ HasIntervals config))
     → ((made ≡ Err BadMultiplier) ↔ (HasIntervals config × (¬ HasMultipliers config)))
     → ((made ≡ Err ShortDatagrams) ↔ (HasIntervals config × HasMultipliers config × (config.udp_buffer_size < 576)))
-    → IsNoAgent name details label config (config_number fault)
-by_fault name details label config NoInterval made has is none bad short = absurd (none.0 is has)
-by_fault name details label config BadMultiplier made has is none bad short = IsNoAgent.of_multiplier refl (bad.0 is).1
-by_fault name details label config ShortDatagrams made has is none bad short =
+    → IsNoAgent name details label config seed (config_number fault)
+by_fault name details label config seed NoInterval made has is none bad short = absurd (none.0 is has)
+by_fault name details label config seed BadMultiplier made has is none bad short = IsNoAgent.of_multiplier refl (bad.0 is).1
+by_fault name details label config seed ShortDatagrams made has is none bad short =
     IsNoAgent.of_datagrams refl (short.0 is).1 (short.0 is).2
 
 -- the first fault of a configuration from settings is the reason
-pub unsettled : (name : List ℕ) (details : DetailsValue) (label : List ℕ) (s : AgentSettings) (config : Config)
-    (fault : ConfigFault) (made : Result Config ConfigFault) → config ≡ config_of s → made ≡ Err fault
+pub unsettled : (name : List ℕ) (details : DetailsValue) (label : List ℕ) (s : AgentSettings) (seed : List ℕ)
+    (config : Config) (fault : ConfigFault) (made : Result Config ConfigFault) → config ≡ config_of s → made ≡ Err fault
     → ((made ≡ Err NoInterval) ↔ (¬ HasIntervals config))
     → ((made ≡ Err BadMultiplier) ↔ (HasIntervals config × (¬ HasMultipliers config)))
     → ((made ≡ Err ShortDatagrams) ↔ (HasIntervals config × HasMultipliers config × (config.udp_buffer_size < 576)))
-    → IsNoAgent name details label (config_of s) (config_number fault)
-unsettled name details label s config fault made same is none bad short =
-    subst (λ (c : Config). IsNoAgent name details label c (config_number fault)) same
-    (by_fault name details label config fault made (subst (λ (c : Config). HasIntervals c) (sym same) (has_intervals s)) is
+    → IsNoAgent name details label (config_of s) seed (config_number fault)
+unsettled name details label s seed config fault made same is none bad short =
+    subst (λ (c : Config). IsNoAgent name details label c seed (config_number fault)) same
+    (by_fault name details label config seed fault made (subst (λ (c : Config). HasIntervals c) (sym same) (has_intervals s)) is
     none bad short)
 
 -- a copy of one more key

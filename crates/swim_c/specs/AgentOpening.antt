@@ -1,5 +1,5 @@
 -- What an agent begins with, and why none was made.
-use Rattle.std.specs.Prelude.{not, ◌≡◌, ◌<◌, ℕ, zero, suc, List, length, Option, Some, None, ⊤}
+use Rattle.std.specs.Prelude.{not, ◌≡◌, ◌≢◌, ◌<◌, ℕ, zero, suc, List, length, replicate, Option, Some, None, ⊤}
 use Rattle.swim_claim.specs.Details.{DetailsValue}
 use Rattle.memberlist_member.specs.Configs.{HasMultipliers, default_lan}
 use Rattle.memberlist_member.specs.declared.config.Config.{Config}
@@ -61,34 +61,41 @@ abbrev pub agent_number : AgentFault → ℕ
 agent_number (agent.Own fault) = open_number fault
 agent_number agent.LabelTooLong = statuses.cipher_too_long
 agent_number (agent.Config fault) = config_number fault
+agent_number agent.NoSeed = statuses.no_seed
 agent_number agent.Memory = statuses.memory
+
+-- the seed of a configuration in which none was drawn
+abbrev pub no_seed : List ℕ
+no_seed = replicate 32 0
 
 -- the label is too long, or memory was refused
 abbrev pub IsNoCover : List ℕ → AgentFault → Type 0
 IsNoCover label (agent.Own fault) = ⊥
 IsNoCover label agent.LabelTooLong = 255 < length label
 IsNoCover label (agent.Config fault) = ⊥
+IsNoCover label agent.NoSeed = ⊥
 IsNoCover label agent.Memory = ⊤
 
 -- Why no agent was made: what the member says about itself, or a lack of memory (10 to 15); its
--- label (51); a multiplier (75); the datagrams (76).
+-- label (51); a multiplier (75); the datagrams (76); a seed that was never drawn (77).
 pub data IsNoAgent (name : List ℕ) (details : DetailsValue) (label : List ℕ)
-    (config : Config) (status : ℕ) : Type 0 where
-  of_own : IsUnmade name details status → IsNoAgent name details label config status
+    (config : Config) (seed : List ℕ) (status : ℕ) : Type 0 where
+  of_own : IsUnmade name details status → IsNoAgent name details label config seed status
   of_label : status ≡ statuses.cipher_too_long → 255 < length label
-      → IsNoAgent name details label config status
+      → IsNoAgent name details label config seed status
   of_multiplier : status ≡ statuses.bad_multiplier → ¬ HasMultipliers config
-      → IsNoAgent name details label config status
+      → IsNoAgent name details label config seed status
   of_datagrams : status ≡ statuses.short_datagrams → HasMultipliers config
-      → config.udp_buffer_size < 576 → IsNoAgent name details label config status
+      → config.udp_buffer_size < 576 → IsNoAgent name details label config seed status
+  of_seed : status ≡ statuses.no_seed → seed ≡ no_seed → IsNoAgent name details label config seed status
 
--- A handle with an agent keeps it (65). An empty one gets an agent that accepted no stream (0), or
--- stays empty, and the status says why.
-abbrev pub AgentOpened : List ℕ → DetailsValue → List ℕ → Config → Option HeldAgent
+-- A handle with an agent keeps it (65). An empty one gets an agent that accepted no stream (0), and
+-- then its seed was drawn; or it stays empty, and the status says why.
+abbrev pub AgentOpened : List ℕ → DetailsValue → List ℕ → Config → List ℕ → Option HeldAgent
     → Option HeldAgent → ℕ → Type 0
-AgentOpened name details label config (Some before) new status =
+AgentOpened name details label config seed (Some before) new status =
     (status ≡ statuses.node_there) × (new ≡ Some before)
-AgentOpened name details label config None (Some after) status =
-    (status ≡ 0) × (after.accepted ≡ 0)
-AgentOpened name details label config None None status =
-    IsNoAgent name details label config status
+AgentOpened name details label config seed None (Some after) status =
+    (status ≡ 0) × (after.accepted ≡ 0) × (seed ≢ no_seed)
+AgentOpened name details label config seed None None status =
+    IsNoAgent name details label config seed status

@@ -5,7 +5,7 @@ use Rattle.std.specs.declared.net.socket_addr.SocketAddr.{SocketAddr}
 use Rattle.memberlist_member.specs.Places.{HasOctets}
 use Rattle.memberlist_member.specs.declared.output.Output.{Output}
 use Rattle.memberlist_member.specs.declared.output.Output.TheVariants.{Send, Dial, Write, Close, Changed, Unanswered}
-use Rattle.memberlist_member.specs.declared.output.Output.TheVariants.{Untold, Refuted, Exhausted, Forgotten, Departed, User, UserState}
+use Rattle.memberlist_member.specs.declared.output.Output.TheVariants.{Untold, Refuted, Exhausted, Forgotten, Departed, Incompatible, User, UserState}
 use Rattle.swim_c.specs.declared.agent.out.Out.{Out}
 use Rattle.swim_c.specs.declared.agent.place.Place.{Place}
 use Rattle.swim_c.specs.declared.buffer.Buffer.{Buffer}
@@ -39,6 +39,7 @@ IsWritten (Forgotten count) o = (o.kind ≡ 10) × (o.count ≡ count)
 IsWritten Departed o = o.kind ≡ 11
 IsWritten (User bytes) o = o.kind ≡ 12
 IsWritten (UserState bytes join) o = (o.kind ≡ 13) × (o.join ≡ join)
+IsWritten (Incompatible stream) o = (o.kind ≡ 14) × (o.stream ≡ stream)
 
 -- the bytes of an output, if it has any
 abbrev pub bytes_of : Output → Option (List ℕ)
@@ -55,6 +56,7 @@ bytes_of (Forgotten count) = None
 bytes_of Departed = None
 bytes_of (User bytes) = Some bytes.items
 bytes_of (UserState bytes join) = Some bytes.items
+bytes_of (Incompatible stream) = None
 
 -- the buffer has them, or is empty
 abbrev pub HasOutBytes : Output → Buffer → Type 0

@@ -100,6 +100,9 @@ bad_multiplier = 75
 abbrev pub short_datagrams : ℕ
 short_datagrams = 76
 
+abbrev pub no_seed : ℕ
+no_seed = 77
+
 abbrev pub cipher_status : CipherFault → ℕ
 cipher_status cipher.Memory = memory
 cipher_status fault = cipher_number fault

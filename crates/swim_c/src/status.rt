@@ -48,3 +48,5 @@ pub const NOT_BACK: u32 = 73;
 pub const BAD_MULTIPLIER: u32 = 75;
 /// The datagrams of a configuration are too short.
 pub const SHORT_DATAGRAMS: u32 = 76;
+/// The seed of a configuration was never drawn.
+pub const NO_SEED: u32 = 77;

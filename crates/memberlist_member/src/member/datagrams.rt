@@ -7,7 +7,7 @@ ghost use Rattle.memberlist_message.specs.Messages.{AckValue, MessageValue, mess
 ghost use Rattle.memberlist_member.specs.Steps.{AnswersAtMostEach, IsAnsweredAfter, IsHeededAck};
 ghost use Rattle.memberlist_member.specs.Steps.{IsOutdone, IsOutdoneAfter, IsOutdoneIn};
 ghost use Rattle.memberlist_member.specs.Staying.{Adds, BeginsNoProbe, HasNoProbe, KeepsAnswered};
-ghost use Rattle.memberlist_member.specs.Staying.{Stays, StaysButProbe};
+ghost use Rattle.memberlist_member.specs.Staying.{ShowsTheSame, Stays, StaysButProbe};
 ghost use Rattle.memberlist_member.specs.Showing.{KeepsLines, GoesBy, GoesByDatagram, GoesOn};
 ghost use Rattle.memberlist_member.specs.Showing.{Tells};
 ghost use Rattle.memberlist_member.specs.Saying.{said_of};
@@ -133,6 +133,7 @@ impl Member {
         ensures stays { Stays self.old self.new }
         ensures goes { GoesOn self.old self.new }
         ensures lines { KeepsLines self.old self.new }
+        ensures shown { ShowsTheSame self.old self.new }
     {
         self.refused = self.refused.saturating_add(1);
     }

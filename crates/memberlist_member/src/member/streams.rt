@@ -1,6 +1,7 @@
 //! What goes over connections.
 
-ghost use Rattle.memberlist_member.specs.Staying.{Adds, BeginsNoProbe, Stays, StaysButProbe};
+ghost use Rattle.memberlist_member.specs.Staying.{Adds, BeginsNoProbe, ShowsTheSame, Stays};
+ghost use Rattle.memberlist_member.specs.Staying.{StaysButProbe};
 ghost use Rattle.memberlist_member.specs.Showing.{GoesByBytes, GoesByLine, GoesByLines};
 ghost use Rattle.memberlist_member.specs.Showing.{GoesOn, GrowsLine, KeepsLines};
 
@@ -208,6 +209,7 @@ impl Member {
         ensures stays { Stays self.old self.new }
         ensures goes { GoesOn self.old self.new }
         ensures lines { KeepsLines self.old self.new }
+        ensures shown { ShowsTheSame self.old self.new }
     {
         match self
             .cover
@@ -287,6 +289,7 @@ impl Member {
         ensures stays { Stays self.old self.new }
         ensures goes { GoesOn self.old self.new }
         ensures lines { KeepsLines self.old self.new }
+        ensures shown { ShowsTheSame self.old self.new }
     {
         match self.connections.remove(conn) {
             Some(_) => self.put(Output::Close { conn }),

@@ -1,9 +1,10 @@
 //! Tables that members exchange.
 
-ghost use Rattle.std.specs.Prelude.{◌≡◌, ℕ, IfOk, List};
+ghost use Rattle.std.specs.Prelude.{◌≡◌, ℕ, IfOk, List, true};
 ghost use Rattle.memberlist_member.specs.Reading.{IsRead};
 ghost use Rattle.std.specs.List.{All, Contains};
-ghost use Rattle.memberlist_member.specs.Staying.{Adds, Stays};
+ghost use Rattle.memberlist_member.specs.Staying.{Adds, ShowsTheSame, Stays};
+ghost use Rattle.memberlist_member.specs.Versions.{are_compatible};
 ghost use Rattle.memberlist_member.specs.Showing.{GoesBy};
 ghost use Rattle.memberlist_member.specs.Showing.{GoesByTable, GoesOn, KeepsLines};
 ghost use Rattle.memberlist_member.specs.Saying.{said_in_table};
@@ -13,6 +14,7 @@ use crate::claims;
 use crate::connections::Purpose;
 use crate::member::Member;
 use crate::output::Output;
+use crate::versions::are_compatible;
 use memberlist_view::{Entry, Heard, MemberName, Said, State};
 use rand_core::Rng;
 use std::alloc::{AllocError, Global};
@@ -40,7 +42,7 @@ enum Stream {
 
 impl Member {
     /// Takes in the table in a stream, once it is whole: answers with its own, if it was not asked
-    /// for, and merges it (`handleConn`, `pushPullNode`).
+    /// for, and merges it (`handleConn`, `pushPullNode`), unless not all understand each other.
     pub(crate) fn take_table<R: Rng>(
         &mut self,
         conn: u64,
@@ -64,6 +66,9 @@ impl Member {
                 join,
                 state,
             } => {
+                if !are_compatible(&self.view, &claims) {
+                    return self.turn_away(conn);
+                }
                 self.answer_table(conn, purpose, join, rng)?;
                 self.hang_up(conn)?;
                 self.merge_all(claims, rng)?;
@@ -72,8 +77,23 @@ impl Member {
         }
     }
 
-    /// Merges the records of another member's table.
+    /// Refuses a table: of those that are alive in it, or shown, not all understand each other
+    /// (`verifyProtocol`).
+    fn turn_away(&mut self, conn: u64) -> Result<(), AllocError>
+        ensures adds { Adds 0 0 0 self.old self.new }
+        ensures stays { Stays self.old self.new }
+        ensures goes { GoesOn self.old self.new }
+        ensures lines { KeepsLines self.old self.new }
+        ensures shown { ShowsTheSame self.old self.new }
+    {
+        self.refuse();
+        self.put(Output::Incompatible { conn })?;
+        self.hang_up(conn)
+    }
+
+    /// Merges the records of another member's table, which are understood.
     fn merge_all<R: Rng>(&mut self, claims: Vec<Claim>, rng: &mut R) -> Result<(), AllocError>
+        requires compatible { are_compatible self.old.view claims.items ≡ true }
         ensures adds { Adds 0 0 0 self.old self.new }
         ensures stays { Stays self.old self.new }
         ensures goes { (told : List Said)
@@ -125,6 +145,7 @@ impl Member {
         ensures stays { Stays self.old self.new }
         ensures goes { GoesOn self.old self.new }
         ensures lines { KeepsLines self.old self.new }
+        ensures shown { ShowsTheSame self.old self.new }
     {
         if purpose != Purpose::Theirs {
             return Ok(());

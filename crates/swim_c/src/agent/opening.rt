@@ -1,7 +1,7 @@
 //! An agent from its parts.
 
-ghost use Rattle.std.specs.Prelude.{◌≡◌, IfErr, IfOk};
-ghost use Rattle.swim_c.specs.AgentOpening.{IsNoAgent, IsNoCover, agent_number, config_of};
+ghost use Rattle.std.specs.Prelude.{◌≡◌, ◌≢◌, IfErr, IfOk};
+ghost use Rattle.swim_c.specs.AgentOpening.{IsNoAgent, IsNoCover, agent_number, config_of, no_seed};
 ghost use Rattle.swim_c.specs.Opening.{told};
 ghost use Rattle.swim_c.specs.declared.agent.opening.AgentFault.TheVariants as no_agent;
 
@@ -11,7 +11,7 @@ use crate::agent::keys::copied;
 use crate::agent::settings::AgentSettings;
 use crate::cluster_keys::ClusterKeys;
 use crate::opening::{self, OpenFault, Parts};
-use crate::status::{CIPHER_TOO_LONG, MEMORY};
+use crate::status::{CIPHER_TOO_LONG, MEMORY, NO_SEED};
 use memberlist_member::{ConfigFault, Cover, Identity, Member, Settings};
 use rand_chacha::ChaCha20Rng;
 use rand_core::SeedableRng;
@@ -23,7 +23,7 @@ pub struct Beginning {
     /// Its first incarnation.
     pub inc: u32,
     pub settings: AgentSettings,
-    /// The seed of its generator.
+    /// The seed of its generator, of which no byte has to be, but not all are, 0.
     pub seed: [u8; 32],
     pub now: u64,
 }
@@ -34,6 +34,8 @@ pub enum AgentFault {
     Own(OpenFault),
     LabelTooLong,
     Config(ConfigFault),
+    /// All bytes of the seed are 0: it was never drawn.
+    NoSeed,
     Memory,
 }
 
@@ -61,13 +63,14 @@ impl AgentFault {
             AgentFault::Own(fault) => fault.number(),
             AgentFault::LabelTooLong => CIPHER_TOO_LONG,
             AgentFault::Config(fault) => config_status(*fault),
+            AgentFault::NoSeed => NO_SEED,
             AgentFault::Memory => MEMORY,
         }
     }
 }
 
-/// An agent which knows nobody. What the member says about itself is refused before its label, and
-/// its label before its settings.
+/// An agent which knows nobody. A seed that was never drawn is refused first, then what the member
+/// says about itself, its label, and its settings.
 pub fn open(
     alloc: Global,
     own: Parts,
@@ -76,10 +79,14 @@ pub fn open(
     beginning: &Beginning,
 ) -> Result<Box<HeldAgent>, AgentFault>
     ensures streams { IfOk result (λ held. held.value.accepted ≡ 0) }
+    ensures seed { IfOk result (λ _. beginning.entry.now.seed ≢ no_seed) }
     ensures refused { IfErr result (λ fault. IsNoAgent own.entry.name.now
         (told own.entry.addr.now own.entry.port own.entry.meta.now own.entry.vsn.now) label.now
-        (config_of beginning.entry.now.settings) (agent_number fault)) }
+        (config_of beginning.entry.now.settings) beginning.entry.now.seed (agent_number fault)) }
 {
+    if beginning.seed == [0; 32] {
+        return Err(AgentFault::NoSeed);
+    }
     let (name, details) = opening::copied(alloc, own)?;
     let cover = cover_of(alloc, label, keys)?;
     let settings = match Settings::new(beginning.settings.config()) {

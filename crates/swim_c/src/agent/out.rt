@@ -38,6 +38,8 @@ const USER: u32 = 12;
 
 const USER_STATE: u32 = 13;
 
+const INCOMPATIBLE: u32 = 14;
+
 /// One output, without its bytes. What it has not is 0.
 #[repr(C)]
 #[derive(Drop)]
@@ -92,6 +94,7 @@ impl Out {
             Output::Exhausted => self.fill_kind(EXHAUSTED, None),
             Output::Forgotten { count } => self.fill_count(count),
             Output::Departed => self.fill_kind(DEPARTED, None),
+            Output::Incompatible { conn } => self.fill_stream(INCOMPATIBLE, conn, None),
             Output::User { bytes } => self.fill_kind(USER, Some(bytes)),
             Output::UserState { bytes, join } => self.fill_state(bytes, join),
         }

@@ -32,6 +32,7 @@ use std::alloc::Global;
 /// - 65 if the handle has an agent.
 /// - 11 or 12 for the name, else 13 for the address, else 14 for the metadata, else 15 for the
 ///   versions, else 51 for the label, else 75 for a multiplier, else 76 for the datagrams.
+/// - 77 if all bytes of the seed are 0.
 /// - 10 if out of memory.
 #[unsafe(no_mangle)]
 pub extern "C" fn swimtab_raw_agent_open(
@@ -50,7 +51,7 @@ pub extern "C" fn swimtab_raw_agent_open(
     seed: &[u8; 32],
 ) -> u32
     ensures opens { AgentOpened name.now (told addr.now port meta.now vsn.now) label.now
-        (config_of settings.now) agent.old.agent agent.new.agent result }
+        (config_of settings.now) seed.now agent.old.agent agent.new.agent result }
     ensures stays { keyring.new.keys ≡ keyring.old.keys }
 {
     if let Some(held) = agent.take(alloc) {

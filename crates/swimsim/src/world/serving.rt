@@ -45,6 +45,7 @@ impl World {
             }
             Output::Untold { .. }
             | Output::Exhausted
+            | Output::Incompatible { .. }
             | Output::Forgotten { .. }
             | Output::User { .. }
             | Output::UserState { .. } => Ok(()),

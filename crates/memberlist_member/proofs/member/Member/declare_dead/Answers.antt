@@ -2,7 +2,6 @@ use Rattle.std.proofs.Common.{◌≡◌, Some, ap, false, rules, subst, sym, tru
 use Rattle.memberlist_view.specs.Heard.{about}
 use Rattle.memberlist_view.specs.Member.{member_view_after}
 use Rattle.memberlist_view.specs.Told.{entry_of}
-use Rattle.memberlist_member.specs.Claims.{dead_by, packet_of}
 use Rattle.memberlist_member.specs.Saying.{said_of}
 use Rattle.memberlist_member.specs.Showing.{IsGround}
 use Rattle.memberlist_member.specs.Showing.HasGround.{is_over}

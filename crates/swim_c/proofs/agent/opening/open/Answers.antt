@@ -8,5 +8,5 @@ returns-in-Err-clause-refused c =
     let own = c.args.own in
     let why = c.in-Err.ensures in
     unsettled own.name.now (told own.addr.now own.port own.meta.now own.vsn.now) c.args.label.now
-    c.args.beginning.now.settings c.config.result c.in-Err.fault
+    c.args.beginning.now.settings c.args.beginning.now.seed c.config.result c.in-Err.fault
     (Err c.in-Err.fault) c.config.ensures refl why.no_interval why.bad_multiplier why.short_datagrams
