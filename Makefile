@@ -46,7 +46,7 @@ programs := swimtab swimunwrap swimwatch
 
 # All at once, so that crates are proved side by side.
 build/all: $(SOURCES) | kit
-	@echo 'proving and building all; the first time this takes about two hours on two processors'
+	@echo 'proving and building all; the first time this takes an hour and a half on two processors'
 	@.ci/prove $(programs) $$(if command -v $(CC) > /dev/null; then echo swim_c; fi)
 	@touch $@
 
@@ -85,8 +85,8 @@ run: kit
 	@echo 'compiling swimtab with checks at run time and no proof; this takes about a minute'
 	@.ci/try swimtab
 	@build/unproved/swimtab < examples/packets.hex
-	@echo 'this build has checks at run time and no proof; make build/swimtab proves and builds it in half an hour on two'
-	@echo 'processors, and make all programs and the library in two hours'
+	@echo 'this build has checks at run time and no proof; make build/swimtab proves and builds it in 20 minutes on two'
+	@echo 'processors, and make all programs and the library in an hour and a half'
 
 test: kit
 	@.ci/gate

@@ -210,7 +210,7 @@ def prove(names, spent, progress, log, anew=False, beside=lambda tasks: {}):
     rt.edits_of = lambda crate: ([], [])
     rt.Crate.ci, rt.Kept, rt.in_lanes = prove_once, Told, with_beside
     # One job a check, since four take half as much processor time again, and as many checks as processors, whatever memory
-    # rt reckons with: it would prove swimwatch, which takes 14 GB, at the end and alone.
+    # rt reckons with: it would prove swimwatch, which takes 17 GB, at the end and alone.
     os.environ.setdefault("RT_JOBS", str(rt.processors()))
     if not os.access(rt.STORE if os.path.isdir(rt.STORE) else os.path.dirname(rt.STORE), os.W_OK):
         # (the kit is root's, say)
