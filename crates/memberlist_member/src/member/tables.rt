@@ -1,6 +1,6 @@
 //! Tables that members exchange.
 
-ghost use Rattle.std.specs.Prelude.{◌≡◌, ℕ, IfOk, List, true};
+ghost use Rattle.std.specs.Prelude.{◌≡◌, ℕ, IfOk, List, false, true};
 ghost use Rattle.memberlist_member.specs.Reading.{IsRead};
 ghost use Rattle.std.specs.List.{All, Contains};
 ghost use Rattle.memberlist_member.specs.Staying.{Adds, ShowsTheSame, Stays};
@@ -67,7 +67,7 @@ impl Member {
                 state,
             } => {
                 if !are_compatible(&self.view, &claims) {
-                    return self.turn_away(conn);
+                    return self.turn_away(conn, &claims);
                 }
                 self.answer_table(conn, purpose, join, rng)?;
                 self.hang_up(conn)?;
@@ -77,9 +77,10 @@ impl Member {
         }
     }
 
-    /// Refuses a table: of those that are alive in it, or shown, not all understand each other
-    /// (`verifyProtocol`).
-    fn turn_away(&mut self, conn: u64) -> Result<(), AllocError>
+    /// Refuses a table with these records: of those that are alive in it, or shown, not all understand
+    /// each other (`verifyProtocol`).
+    fn turn_away(&mut self, conn: u64, _claims: &[Claim]) -> Result<(), AllocError>
+        requires incompatible { are_compatible self.old.view _claims.now ≡ false }
         ensures adds { Adds 0 0 0 self.old self.new }
         ensures stays { Stays self.old self.new }
         ensures goes { GoesOn self.old self.new }
