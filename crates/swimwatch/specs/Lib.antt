@@ -26,4 +26,5 @@ pub mod Versions
 pub mod Viewed
 pub mod Views
 pub mod Ways
+pub mod Written
 pub mod Yielded

@@ -19,6 +19,7 @@ mod style;
 pub(crate) mod svg;
 
 use crate::heard::sent::Sent;
+use crate::text::written::Text;
 use crate::view::change::Change;
 use crate::view::directory::copy_of;
 use crate::view::listener::Listener;
@@ -85,18 +86,19 @@ impl Chart {
     /// # Errors
     ///
     /// If out of memory for the text.
-    pub(crate) fn write(&self, text: &mut String) -> Result<(), AllocError> {
+    pub(crate) fn write(&self, text: &mut Text) -> Result<(), AllocError> {
         let mut width = 0u64;
         for (name, _) in self.rows.iter() {
             width = width.max(label_width(self.alloc, name)?);
         }
         let page = Page::new(self.span, self.rows.len(), width);
-        page.write_head(text)?;
+        page.write_head(text);
         let mut top = page.top();
         for (name, row) in self.rows.iter() {
             write_row(text, &page, top, name, row)?;
             top = page.below(top);
         }
-        text.push_str("</svg>\n")
+        text.push_str("</svg>\n");
+        Ok(())
     }
 }

@@ -13,6 +13,7 @@
 //! | `pings` | who a ping shows |
 //! | `warnings` | suspicions that only warn |
 //! | `serf` | what Serf's messages say |
+//! | `noted` | what is noted for those who follow probes |
 //! | `unread` | user messages that are not Serf's |
 //! | `counts` | what was read, and what was left out and why |
 //! | `serf_state` | Serf's state in a stream |
@@ -20,6 +21,7 @@
 pub(crate) mod carriage;
 pub(crate) mod counts;
 pub(crate) mod messages;
+pub(crate) mod noted;
 pub(crate) mod pings;
 pub(crate) mod recent;
 pub(crate) mod records;

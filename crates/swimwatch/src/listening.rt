@@ -4,6 +4,7 @@
 //! |---|---|
 //! | `views` | the view of each capture, or one of all, and what they print |
 //! | `printer` | what the views print |
+//! | `detecting` | the probes of members, and why members were suspected |
 //! | `seats` | which view hears which record |
 //! | `seating` | which captures each view follows |
 //! | `setting` | what all views have in common |
@@ -16,6 +17,7 @@
 //! | `watch` | what a view hears, and what it shows |
 
 pub(crate) mod connections;
+pub(crate) mod detecting;
 pub(crate) mod filter;
 pub(crate) mod parcel;
 pub(crate) mod printer;

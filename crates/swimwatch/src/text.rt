@@ -4,6 +4,7 @@
 //! |---|---|
 //! | `moment` | times |
 //! | `window` | the time that is shown |
+//! | `written` | text that is written piece by piece |
 //! | `names` | names of members |
 //! | `tags` | tags of Serf and Consul |
 //! | `endpoint` | addresses and ports |
@@ -25,3 +26,4 @@ pub(crate) mod said;
 pub(crate) mod tags;
 pub(crate) mod texts;
 pub(crate) mod window;
+pub(crate) mod written;

@@ -4,6 +4,7 @@ use crate::asked::ask::{Answer, Asked};
 use crate::asked::silence::Silence;
 use crate::text::json::Object;
 use crate::text::texts::name_text;
+use crate::text::written::Text;
 use crate::view::agreement::{Voice, differing, opinions_in, write_opinions, write_others};
 use crate::view::known::Known;
 use memberlist_view::MemberName;
@@ -44,11 +45,11 @@ pub(crate) fn status_of(alloc: Global, asked: &[Asked]) -> Result<u8, AllocError
 /// that answered do. Below it, for each name on which not all agree, a row for each member; and a
 /// row for each member without an answer.
 pub(crate) fn write_asked(
-    text: &mut String,
+    text: &mut Text,
     asked: &[Asked],
     is_keyless: bool,
 ) -> Result<(), AllocError> {
-    let alloc = *text.allocator();
+    let alloc = text.alloc();
     let answers = answers_in(alloc, asked)?;
     if !answers.is_empty() {
         let opinions = opinions_in(alloc, &answers)?;
@@ -57,72 +58,55 @@ pub(crate) fn write_asked(
         } else {
             None
         };
-        write_opinions(text, &opinions, members)?;
+        write_opinions(text, &opinions, members);
         if differing(&opinions) > 0 {
-            write_others(text, &answers, &opinions)?;
+            write_others(text, &answers, &opinions);
         }
     }
-    write_silent(text, asked, is_keyless)
-}
-
-/// Adds a row for each member without an answer.
-pub(crate) fn write_silent(
-    text: &mut String,
-    asked: &[Asked],
-    is_keyless: bool,
-) -> Result<(), AllocError> {
-    let alloc = *text.allocator();
-    for told in asked {
-        if let Err(silence) = told {
-            let words = silence.words(alloc, is_keyless)?;
-            write!(text, "{} no answer ({words})\n", silence.host)?;
-        }
-    }
+    write_silent(text, asked, is_keyless);
     Ok(())
 }
 
+/// Adds a row for each member without an answer.
+pub(crate) fn write_silent(text: &mut Text, asked: &[Asked], is_keyless: bool) {
+    let alloc = text.alloc();
+    for told in asked {
+        if let Err(silence) = told {
+            write!(text, "{} no answer (", silence.host);
+            text.add(silence.words(alloc, is_keyless));
+            text.push_str(")\n");
+        }
+    }
+}
+
 /// Adds a JSON object for each name and member, and one for each member without an answer.
-pub(crate) fn write_asked_objects(
-    text: &mut String,
-    asked: &[Asked],
-    is_keyless: bool,
-) -> Result<(), AllocError> {
+pub(crate) fn write_asked_objects(text: &mut Text, asked: &[Asked], is_keyless: bool) {
     for told in asked {
         match told {
             Ok(answer) => {
                 for (name, known) in answer.roster.iter() {
-                    write_object(text, answer, name, known)?;
+                    write_object(text, answer, name, known);
                 }
             }
-            Err(silence) => write_silent_object(text, silence, is_keyless)?,
+            Err(silence) => write_silent_object(text, silence, is_keyless),
         }
     }
-    Ok(())
 }
 
 /// Adds the JSON object for a member without an answer.
-pub(crate) fn write_silent_object(
-    text: &mut String,
-    silence: &Silence,
-    is_keyless: bool,
-) -> Result<(), AllocError> {
-    let alloc = *text.allocator();
+pub(crate) fn write_silent_object(text: &mut Text, silence: &Silence, is_keyless: bool) {
+    let alloc = text.alloc();
     let mut object = Object::new(alloc);
-    object.word("host", &silence.host)?;
-    object.text("no_answer", silence.words(alloc, is_keyless)?)?;
+    object.word("host", &silence.host);
+    object.text("no_answer", silence.words(alloc, is_keyless));
     object.write(text)
 }
 
-fn write_object(
-    text: &mut String,
-    answer: &Answer,
-    name: &MemberName,
-    known: &Known,
-) -> Result<(), AllocError> {
-    let alloc = *text.allocator();
+fn write_object(text: &mut Text, answer: &Answer, name: &MemberName, known: &Known) {
+    let alloc = text.alloc();
     let mut object = Object::new(alloc);
-    object.word("host", &answer.host)?;
-    object.text("name", name_text(alloc, name)?)?;
-    known.write(&mut object)?;
+    object.word("host", &answer.host);
+    object.text("name", name_text(alloc, name));
+    known.write(&mut object);
     object.write(text)
 }

@@ -12,6 +12,7 @@ use crate::text::json::Object;
 use crate::text::moment::write_moment;
 use crate::text::said::said;
 use crate::text::texts::moment_text;
+use crate::text::written::Text;
 use key_files::keyring_of;
 use memberlist_view::MemberName;
 use std::alloc::{AllocError, Global};
@@ -71,7 +72,7 @@ pub(crate) fn follow(
         let asked = ask_all(rt, &mut ring, &chosen.asking, &targets)?;
         status = status_of(alloc, &asked)?;
         watch.hear(now(rt)?, asked, &mut targets)?;
-        print_bytes(rt, NAME, watch.text.as_bytes())?;
+        print_bytes(rt, NAME, watch.text.as_str()?.as_bytes())?;
         watch.text.clear();
         if let Some(file) = &following.metrics {
             write_anew(rt, file, &metrics_of(alloc, &watch.followed, &watch.tally)?)?;
@@ -119,7 +120,7 @@ struct Watched {
     followed: Vec<Followed>,
     tally: Tally,
     /// What is to be printed.
-    text: String,
+    text: Text,
     shown: Shown,
     /// When the last round began.
     begun: Option<Instant>,
@@ -138,7 +139,7 @@ impl Watched {
         Ok(Watched {
             followed,
             tally: Tally::new(alloc),
-            text: String::new(alloc),
+            text: Text::new(alloc),
             shown,
             begun: None,
         })
@@ -162,7 +163,7 @@ impl Watched {
                     }
                     let is_new = followed.answer.is_none() || followed.silence.is_some();
                     if is_new {
-                        write_answers(&mut self.text, time, &answer, self.shown.json)?;
+                        write_answers(&mut self.text, time, &answer, self.shown.json);
                     }
                     if let Some(last) = &followed.answer {
                         let tally = &mut self.tally;
@@ -172,11 +173,11 @@ impl Watched {
                     followed.answer = Some(answer);
                 }
                 Err(silence) => {
-                    let alloc = *self.text.allocator();
+                    let alloc = self.text.alloc();
                     let words = silence.words(alloc, self.shown.is_keyless)?;
                     if followed.silence.as_deref() != Some(words.as_str()) {
                         let json = self.shown.json;
-                        write_silence(&mut self.text, time, &followed.host, &words, json)?;
+                        write_silence(&mut self.text, time, &followed.host, &words, json);
                     }
                     followed.silence = Some(words);
                 }
@@ -187,25 +188,20 @@ impl Watched {
 }
 
 /// Adds that a member answers: `HOST answers: 3 members, 316 bytes, 1.4 ms`.
-fn write_answers(
-    text: &mut String,
-    time: u64,
-    answer: &Answer,
-    json: bool,
-) -> Result<(), AllocError> {
-    let alloc = *text.allocator();
+fn write_answers(text: &mut Text, time: u64, answer: &Answer, json: bool) {
+    let alloc = text.alloc();
     let count = answer.roster.iter().count();
     let micros = u64::try_from(answer.way.took.as_micros()).unwrap_or(u64::MAX);
     if json {
         let mut object = Object::new(alloc);
-        object.text("time", moment_text(alloc, time)?)?;
-        object.word("host", &answer.host)?;
-        object.number("members", count as u64)?;
-        object.number("bytes", answer.way.len as u64)?;
-        object.number("microseconds", micros)?;
+        object.text("time", moment_text(alloc, time));
+        object.word("host", &answer.host);
+        object.number("members", count as u64);
+        object.number("bytes", answer.way.len as u64);
+        object.number("microseconds", micros);
         return object.write(text);
     }
-    write_moment(text, time)?;
+    write_moment(text, time);
     let tenths = micros / 100;
     write!(
         text,
@@ -218,66 +214,61 @@ fn write_answers(
 }
 
 /// Adds that a member does not answer, and why.
-fn write_silence(
-    text: &mut String,
-    time: u64,
-    host: &str,
-    words: &str,
-    json: bool,
-) -> Result<(), AllocError> {
-    let alloc = *text.allocator();
+fn write_silence(text: &mut Text, time: u64, host: &str, words: &str, json: bool) {
+    let alloc = text.alloc();
     if json {
         let mut object = Object::new(alloc);
-        object.text("time", moment_text(alloc, time)?)?;
-        object.word("host", host)?;
-        object.word("no_answer", words)?;
+        object.text("time", moment_text(alloc, time));
+        object.word("host", host);
+        object.word("no_answer", words);
         return object.write(text);
     }
-    write_moment(text, time)?;
+    write_moment(text, time);
     write!(text, " {host} no answer ({words})\n")
 }
 
 /// Adds a line for each name that changed from one answer of a member to its next, if names are
 /// shown, and counts it. Then adds a line for each event that is new.
 fn write_news(
-    text: &mut String,
+    text: &mut Text,
     tally: &mut Tally,
     time: u64,
     before: &Answer,
     after: &Answer,
     shown: Shown,
 ) -> Result<(), AllocError> {
-    let alloc = *text.allocator();
+    let alloc = text.alloc();
     let names = changed(alloc, &before.roster, &after.roster)?;
     for (name, ()) in names.iter() {
         tally.count(alloc, name, after.roster.get(name))?;
         if !shown.events {
-            write_name_news(text, time, name, before, after, shown.json)?;
+            write_name_news(text, time, name, before, after, shown.json);
         }
     }
-    write_new_events(text, time, before, after, shown.json)
+    write_new_events(text, time, before, after, shown.json);
+    Ok(())
 }
 
 /// Adds what changed for a name.
 fn write_name_news(
-    text: &mut String,
+    text: &mut Text,
     time: u64,
     name: &MemberName,
     before: &Answer,
     after: &Answer,
     json: bool,
-) -> Result<(), AllocError> {
-    let alloc = *text.allocator();
+) {
+    let alloc = text.alloc();
     let was = before.roster.get(name);
     let is = after.roster.get(name);
     if json {
         let mut object = Object::new(alloc);
-        object.text("time", moment_text(alloc, time)?)?;
-        object.word("host", &after.host)?;
+        object.text("time", moment_text(alloc, time));
+        object.word("host", &after.host);
         return write_step_object(text, object, name, was, is);
     }
-    write_moment(text, time)?;
-    text.push(' ')?;
-    write_step(text, name, was, is)?;
+    write_moment(text, time);
+    text.push(' ');
+    write_step(text, name, was, is);
     write!(text, " (at {})\n", after.host)
 }

@@ -12,6 +12,7 @@ use crate::asked::remembered::{write_event_objects, write_events};
 use crate::asked::ring::Ring;
 use crate::heard::records::claims_of_stream;
 use crate::text::said::{misused, output_fails};
+use crate::text::written::Text;
 use key_files::keyring_of;
 use std::alloc::{AllocError, Global};
 use std::process::ExitCode;
@@ -81,14 +82,14 @@ fn shown(
     asked: &[Asked],
     is_keyless: bool,
 ) -> Result<String, AllocError> {
-    let mut text = String::new(alloc);
+    let mut text = Text::new(alloc);
     match (chosen.events, chosen.json) {
         (false, false) => write_asked(&mut text, asked, is_keyless)?,
-        (false, true) => write_asked_objects(&mut text, asked, is_keyless)?,
-        (true, false) => write_events(&mut text, asked, is_keyless)?,
-        (true, true) => write_event_objects(&mut text, asked, is_keyless)?,
+        (false, true) => write_asked_objects(&mut text, asked, is_keyless),
+        (true, false) => write_events(&mut text, asked, is_keyless),
+        (true, true) => write_event_objects(&mut text, asked, is_keyless),
     }
-    Ok(text)
+    text.end()
 }
 
 /// The canonical dump of the table of a stream's claims.

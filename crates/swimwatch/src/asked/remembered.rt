@@ -3,12 +3,13 @@
 use crate::asked::agreed::{write_silent, write_silent_object};
 use crate::asked::ask::{Answer, Asked};
 use crate::heard::serf_state::UserEvent;
-use crate::text::columns::{Rows, row_of_words};
+use crate::text::columns::Rows;
 use crate::text::json::Object;
 use crate::text::moment::write_moment;
 use crate::text::names::write_name;
 use crate::text::payload::write_payload;
 use crate::text::texts::moment_text;
+use crate::text::written::Text;
 use std::alloc::{AllocError, Global};
 use std::collections::BTreeMap;
 
@@ -17,12 +18,8 @@ type Counts<'a> = BTreeMap<&'a UserEvent, usize>;
 
 /// Adds a row for each event that a member remembers, and if several were asked, how many of those
 /// that answered do; and a row for each member without an answer.
-pub(crate) fn write_events(
-    text: &mut String,
-    asked: &[Asked],
-    is_keyless: bool,
-) -> Result<(), AllocError> {
-    let alloc = *text.allocator();
+pub(crate) fn write_events(text: &mut Text, asked: &[Asked], is_keyless: bool) {
+    let alloc = text.alloc();
     let answered = asked.iter().filter(|told| told.is_ok()).count();
     if answered > 0 {
         let members = if asked.len() > 1 {
@@ -30,7 +27,9 @@ pub(crate) fn write_events(
         } else {
             None
         };
-        write_counts(text, &counts_in(alloc, asked)?, members)?;
+        if let Some(counts) = text.made(counts_in(alloc, asked)) {
+            write_counts(text, &counts, members);
+        }
     }
     write_silent(text, asked, is_keyless)
 }
@@ -56,117 +55,92 @@ fn count_events<'a>(counts: &mut Counts<'a>, answer: &'a Answer) -> Result<(), A
 }
 
 /// Adds the table of events, with how many of this many members remember each, if it is shown.
-fn write_counts(
-    text: &mut String,
-    counts: &Counts,
-    members: Option<usize>,
-) -> Result<(), AllocError> {
-    let alloc = *text.allocator();
+fn write_counts(text: &mut Text, counts: &Counts, members: Option<usize>) {
+    let alloc = text.alloc();
     let at = if members.is_some() { "AT" } else { "" };
-    let mut rows = Rows::new(alloc);
-    rows.push(row_of_words(alloc, &["LTIME", "EVENT", "PAYLOAD", at])?)?;
+    let mut rows = Rows::below(alloc, &["LTIME", "EVENT", "PAYLOAD", at]);
     for (event, count) in counts.iter() {
-        let mut row = Vec::new(alloc);
-        row.push(format!(in alloc; "{}", event.ltime)?)?;
-        row.push(event_name(alloc, event)?)?;
-        row.push(shown_payload(alloc, event)?)?;
-        row.push(match members {
-            Some(members) => format!(in alloc; "{count} of {members}")?,
-            None => String::new(alloc),
-        })?;
-        rows.push(row)?;
+        rows.number(event.ltime);
+        rows.name(&event.name);
+        rows.cell(shown_payload(alloc, event));
+        if let Some(members) = members {
+            rows.cell(format!(in alloc; "{count} of {members}"));
+        }
+        rows.end_row();
     }
-    rows.write(text)
-}
-
-/// The name of an event, escaped.
-fn event_name(alloc: Global, event: &UserEvent) -> Result<String, AllocError> {
-    let mut text = String::new(alloc);
-    write_name(&mut text, &event.name)?;
-    Ok(text)
+    rows.write(text);
 }
 
 /// The payload of an event, as a line shows it.
 fn shown_payload(alloc: Global, event: &UserEvent) -> Result<String, AllocError> {
-    let mut text = String::new(alloc);
-    write_payload(&mut text, &event.payload)?;
-    Ok(text)
+    let mut text = Text::new(alloc);
+    write_payload(&mut text, &event.payload);
+    text.end()
 }
 
 /// Adds a JSON object for each member and event, and one for each member without an answer.
-pub(crate) fn write_event_objects(
-    text: &mut String,
-    asked: &[Asked],
-    is_keyless: bool,
-) -> Result<(), AllocError> {
+pub(crate) fn write_event_objects(text: &mut Text, asked: &[Asked], is_keyless: bool) {
     for told in asked {
         match told {
-            Ok(answer) => write_objects_of(text, answer)?,
-            Err(silence) => write_silent_object(text, silence, is_keyless)?,
+            Ok(answer) => write_objects_of(text, answer),
+            Err(silence) => write_silent_object(text, silence, is_keyless),
         }
     }
-    Ok(())
 }
 
 /// Adds a JSON object for each event that a member remembers.
-fn write_objects_of(text: &mut String, answer: &Answer) -> Result<(), AllocError> {
+fn write_objects_of(text: &mut Text, answer: &Answer) {
     for event in answer.events.iter() {
-        let mut object = Object::new(*text.allocator());
-        object.word("host", &answer.host)?;
-        write_event_object(text, object, event)?;
+        let mut object = Object::new(text.alloc());
+        object.word("host", &answer.host);
+        write_event_object(text, object, event);
     }
-    Ok(())
 }
 
 /// Adds an event to an object of JSON, and the object as a line.
-fn write_event_object(
-    text: &mut String,
-    object: Object,
-    event: &UserEvent,
-) -> Result<(), AllocError> {
+fn write_event_object(text: &mut Text, object: Object, event: &UserEvent) {
     let mut object = object;
-    object.number("ltime", event.ltime)?;
-    object.escaped("user_event", &event.name)?;
-    object.payload(&event.payload)?;
+    object.number("ltime", event.ltime);
+    object.escaped("user_event", &event.name);
+    object.payload(&event.payload);
     object.write(text)
 }
 
 /// Adds a line for each event that a member remembers, and did not remember when it answered last:
 /// `event deploy 'v1' 12 (at 10.20.1.11:7946)`.
 pub(crate) fn write_new_events(
-    text: &mut String,
+    text: &mut Text,
     time: u64,
     before: &Answer,
     after: &Answer,
     json: bool,
-) -> Result<(), AllocError> {
-    let alloc = *text.allocator();
+) {
+    let alloc = text.alloc();
     for event in after.events.iter() {
         if before.events.contains(event) {
             continue;
         }
         if json {
             let mut object = Object::new(alloc);
-            object.text("time", moment_text(alloc, time)?)?;
-            object.word("host", &after.host)?;
-            write_event_object(text, object, event)?;
+            object.text("time", moment_text(alloc, time));
+            object.word("host", &after.host);
+            write_event_object(text, object, event);
         } else {
-            write_moment(text, time)?;
-            text.push_str(" event ")?;
-            write_event(text, event)?;
-            write!(text, " (at {})\n", after.host)?;
+            write_moment(text, time);
+            text.push_str(" event ");
+            write_event(text, event);
+            write!(text, " (at {})\n", after.host);
         }
     }
-    Ok(())
 }
 
 /// Adds the name of an event, its payload, if it has one, and its time: `deploy 'v1' 12`.
-fn write_event(text: &mut String, event: &UserEvent) -> Result<(), AllocError> {
-    write_name(text, &event.name)?;
-    text.push(' ')?;
+fn write_event(text: &mut Text, event: &UserEvent) {
+    write_name(text, &event.name);
+    text.push(' ');
     if !event.payload.is_empty() {
-        write_payload(text, &event.payload)?;
-        text.push(' ')?;
+        write_payload(text, &event.payload);
+        text.push(' ');
     }
     write!(text, "{}", event.ltime)
 }

@@ -5,7 +5,7 @@ use crate::chart::span::{Span, WIDTH};
 use crate::chart::style::{MARKS, STATES, STYLE, shape};
 use crate::text::moment::{write_as, write_moment};
 use crate::text::texts::event_words;
-use std::alloc::AllocError;
+use crate::text::written::Text;
 
 /// Where the first row begins, in pixels from the top.
 const TOP: u64 = 92;
@@ -68,13 +68,13 @@ impl Page {
     }
 
     /// Adds a time, without its date if the title has it.
-    pub(crate) fn write_time(&self, text: &mut String, time: u64) -> Result<(), AllocError> {
+    pub(crate) fn write_time(&self, text: &mut Text, time: u64) {
         let is_of_one_day = self.span().is_of_one_day();
         write_as(text, time, if is_of_one_day { OF_THE_DAY } else { DATED })
     }
 
     /// Adds all that comes before the rows.
-    pub(crate) fn write_head(&self, text: &mut String) -> Result<(), AllocError> {
+    pub(crate) fn write_head(&self, text: &mut Text) {
         let width = self.left.saturating_add(WIDTH).saturating_add(40);
         let below = if self.count < MANY { 16 } else { 36 };
         let height = self.bottom().saturating_add(below);
@@ -82,26 +82,26 @@ impl Page {
             text,
             "<svg xmlns=\"http://www.w3.org/2000/svg\" version=\"1.1\" role=\"img\" \
              width=\"{width}\" height=\"{height}\" viewBox=\"0 0 {width} {height}\">\n<title>"
-        )?;
-        self.write_what(text)?;
-        self.write_range(text)?;
+        );
+        self.write_what(text);
+        self.write_range(text);
         text.push_str(
             "</title>\n<desc>A row for each member, by name. A bar shows since when and until when \
              it was alive, suspect, dead or left; a mark shows a conflict, a refutation or a \
              return.</desc>\n",
-        )?;
-        text.push_str(STYLE)?;
-        text.push_str("<rect class=\"page\" width=\"100%\" height=\"100%\"/>\n")?;
-        self.write_title(text)?;
+        );
+        text.push_str(STYLE);
+        text.push_str("<rect class=\"page\" width=\"100%\" height=\"100%\"/>\n");
+        self.write_title(text);
         if self.count == 0 {
-            return Ok(());
+            return;
         }
-        write_legend(text)?;
+        write_legend(text);
         self.write_axis(text)
     }
 
     /// Adds the number of members shown.
-    fn write_what(&self, text: &mut String) -> Result<(), AllocError> {
+    fn write_what(&self, text: &mut Text) {
         match self.count {
             0 => text.push_str("No members"),
             1 => text.push_str("1 member"),
@@ -110,68 +110,63 @@ impl Page {
     }
 
     /// Adds the start and the end, if something was sent.
-    fn write_range(&self, text: &mut String) -> Result<(), AllocError> {
+    fn write_range(&self, text: &mut Text) {
         let Some(span) = self.span else {
-            return Ok(());
+            return;
         };
-        text.push_str(" from ")?;
-        write_moment(text, span.first)?;
-        text.push_str(" to ")?;
+        text.push_str(" from ");
+        write_moment(text, span.first);
+        text.push_str(" to ");
         write_moment(text, span.last)
     }
 
     /// Adds the visible title.
-    fn write_title(&self, text: &mut String) -> Result<(), AllocError> {
-        text.push_str("<text class=\"title\" x=\"16\" y=\"28\">")?;
-        self.write_what(text)?;
+    fn write_title(&self, text: &mut Text) {
+        text.push_str("<text class=\"title\" x=\"16\" y=\"28\">");
+        self.write_what(text);
         if let Some(span) = self.span {
-            text.push_str(", ")?;
-            write_as(text, span.first, DATED)?;
-            text.push_str(" to ")?;
-            self.write_time(text, span.last)?;
-            text.push_str(" UTC")?;
+            text.push_str(", ");
+            write_as(text, span.first, DATED);
+            text.push_str(" to ");
+            self.write_time(text, span.last);
+            text.push_str(" UTC");
         }
         text.push_str("</text>\n")
     }
 
     /// Adds round times above the rows, and also below them if there are many, with lines through
     /// them.
-    fn write_axis(&self, text: &mut String) -> Result<(), AllocError> {
+    fn write_axis(&self, text: &mut Text) {
         let bottom = self.bottom();
-        let ticks = Ticks::of(*text.allocator(), self.span())?;
+        let Some(ticks) = text.made(Ticks::of(text.alloc(), self.span())) else {
+            return;
+        };
         for time in &ticks.times {
             let x = self.left.saturating_add(self.span().place(*time));
-            write!(text, "<path class=\"grid\" d=\"M{x} {TOP}V{bottom}\"/>\n")?;
-            write_tick(text, x, TOP.saturating_sub(6), *time, &ticks)?;
+            write!(text, "<path class=\"grid\" d=\"M{x} {TOP}V{bottom}\"/>\n");
+            write_tick(text, x, TOP.saturating_sub(6), *time, &ticks);
             if MANY <= self.count {
-                write_tick(text, x, bottom.saturating_add(16), *time, &ticks)?;
+                write_tick(text, x, bottom.saturating_add(16), *time, &ticks);
             }
         }
-        Ok(())
     }
 }
 
-fn write_tick(
-    text: &mut String,
-    x: u64,
-    y: u64,
-    time: u64,
-    ticks: &Ticks,
-) -> Result<(), AllocError> {
-    write!(text, "<text class=\"tick\" x=\"{x}\" y=\"{y}\">")?;
-    write_as(text, time, ticks.format(time))?;
+fn write_tick(text: &mut Text, x: u64, y: u64, time: u64, ticks: &Ticks) {
+    write!(text, "<text class=\"tick\" x=\"{x}\" y=\"{y}\">");
+    write_as(text, time, ticks.format(time));
     text.push_str("</text>\n")
 }
 
 /// Adds what the bars and the marks mean.
-fn write_legend(text: &mut String) -> Result<(), AllocError> {
+fn write_legend(text: &mut Text) {
     for (word, x) in &STATES {
         let behind = x.saturating_add(30);
         write!(
             text,
             "<rect class=\"{word}\" x=\"{x}\" y=\"44\" width=\"24\" height=\"14\"/>\
              <text x=\"{behind}\" y=\"55\">{word}</text>\n"
-        )?;
+        );
     }
     for (event, x) in &MARKS {
         let behind = x.saturating_add(12);
@@ -180,7 +175,6 @@ fn write_legend(text: &mut String) -> Result<(), AllocError> {
             "<path class=\"mark\" d=\"M{x} 51{}\"/><text x=\"{behind}\" y=\"55\">{}</text>\n",
             shape(*event),
             event_words(*event)
-        )?;
+        );
     }
-    Ok(())
 }

@@ -1,7 +1,8 @@
 //! What is drawn for a member.
 
-use crate::text::names::write_name;
+use crate::text::names::escaped_name;
 use crate::text::texts::{place_text, state_word, write_rival};
+use crate::text::written::Text;
 use crate::view::change::Change;
 use memberlist_view::{Entry, Event};
 use std::alloc::{AllocError, Global};
@@ -133,7 +134,7 @@ impl Row {
         if !bar.by.is_empty() {
             bar.by.push_str(", ")?;
         }
-        write_name(&mut bar.by, from)
+        bar.by.push_str(&escaped_name(self.alloc, from)?)
     }
 
     /// Notes a greater incarnation in the last bar.
@@ -157,9 +158,9 @@ impl Row {
 }
 
 fn places_text(alloc: Global, entry: &Entry) -> Result<String, AllocError> {
-    let mut text = String::new(alloc);
-    write_rival(&mut text, entry)?;
-    Ok(text)
+    let mut text = Text::new(alloc);
+    write_rival(&mut text, entry);
+    text.end()
 }
 
 fn where_text(alloc: Global, entry: &Entry) -> Result<String, AllocError> {

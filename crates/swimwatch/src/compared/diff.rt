@@ -6,6 +6,7 @@ use crate::asked::ring::Ring;
 use crate::compared::side::{roster_of, rosters_at};
 use crate::shown::changes::{write_change_objects, write_changes};
 use crate::text::said::misused;
+use crate::text::written::Text;
 use crate::view::roster::Roster;
 use key_files::keyring_of;
 use std::process::ExitCode;
@@ -19,13 +20,13 @@ use swim_program::{Failure, print_bytes};
 /// Those of [`roster_of`], for the first side that cannot be read.
 pub(crate) fn diff(rt: &HostRuntime, chosen: &Chosen) -> Result<ExitCode, Failure> {
     let (before, after) = sides(rt, chosen)?;
-    let mut text = String::new(rt.alloc());
+    let mut text = Text::new(rt.alloc());
     let is_changed = if chosen.json {
         write_change_objects(&mut text, &before, &after)?
     } else {
         write_changes(&mut text, &before, &after)?
     };
-    print_bytes(rt, NAME, text.as_bytes())?;
+    print_bytes(rt, NAME, text.as_str()?.as_bytes())?;
     Ok(ExitCode::from(u8::from(is_changed)))
 }
 

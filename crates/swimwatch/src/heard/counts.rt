@@ -1,6 +1,7 @@
 //! What was read from captures, and what was left out and why.
 
 use crate::heard::unread::Unread;
+use crate::text::written::Text;
 use std::alloc::{AllocError, Global};
 use std::net::IpAddr;
 use swim_program::fault_name;
@@ -154,13 +155,15 @@ impl Counts {
         let records = noun(self.records, "record", "records");
         let packets = noun(self.datagrams, "packet", "packets");
         let streams = noun(self.streams, "stream", "streams");
-        let mut text = format!(in alloc;
+        let mut text = Text::new(alloc);
+        write!(
+            text,
             "{} {records}; {} {packets}, {} with claims; {} {streams}",
             self.records, self.datagrams, self.claiming, self.streams
-        )?;
+        );
         for (number, what) in self.others(has_keys) {
             if number > 0 {
-                write!(text, "; {number} {what}")?;
+                write!(text, "; {number} {what}");
             }
         }
         if let Some(source) = self.unencrypted_from {
@@ -169,14 +172,14 @@ impl Counts {
                 text,
                 "; {number} not encrypted, the first from {source}, and not believed \
                  (--accept-clear believes them)"
-            )?;
+            );
         }
         if let Some((one, other)) = self.mixed {
             write!(
                 text,
                 "; a name is claimed at ports {one} and {other} of one address: --port reads one \
                  cluster"
-            )?;
+            );
         }
         if let Some(fault) = self.first_invalid {
             let (number, code) = (self.invalid, fault.number());
@@ -184,10 +187,10 @@ impl Counts {
                 text,
                 "; {number} with an invalid record, the first with fault {code} {}",
                 fault_name(code)
-            )?;
+            );
         }
-        self.users.write(&mut text)?;
-        Ok(text)
+        self.users.write(&mut text);
+        text.end()
     }
 
     /// How often each other thing occurred, with its name.

@@ -1,6 +1,6 @@
 //! What is carried for programs above memberlist and is not read, by its type.
 
-use std::alloc::AllocError;
+use crate::text::written::Text;
 
 /// How many types are named.
 const MAX_NAMED: usize = 8;
@@ -43,38 +43,37 @@ impl Unread {
 
     /// Adds what was not read, if there is something: `; 28 user messages not read as Serf's (26 of
     /// type 10, 2 of type 3)`. Of many types the first eight are named.
-    pub(crate) fn write(&self, text: &mut String) -> Result<(), AllocError> {
+    pub(crate) fn write(&self, text: &mut Text) {
         let mut sum = self.empty;
         for count in &self.counts {
             sum = sum.saturating_add(*count);
         }
         if sum == 0 {
-            return Ok(());
+            return;
         }
         let noun = if sum == 1 { "message" } else { "messages" };
-        write!(text, "; {sum} user {noun} not read as Serf's (")?;
-        self.write_types(text)?;
-        text.push(')')
+        write!(text, "; {sum} user {noun} not read as Serf's (");
+        self.write_types(text);
+        text.push(')');
     }
 
     /// Adds how many there are of each type.
-    fn write_types(&self, text: &mut String) -> Result<(), AllocError> {
+    fn write_types(&self, text: &mut Text) {
         let mut between = "";
         let mut named = 0;
         for (kind, count) in self.counts.iter().enumerate() {
             if *count > 0 && named < MAX_NAMED {
-                write!(text, "{between}{count} of type {kind}")?;
+                write!(text, "{between}{count} of type {kind}");
                 between = ", ";
                 named += 1;
             }
         }
         if self.empty > 0 {
-            write!(text, "{between}{} empty", self.empty)?;
+            write!(text, "{between}{} empty", self.empty);
         }
         let types = self.counts.iter().filter(|count| **count > 0).count();
         if named < types {
-            write!(text, ", and of {} other types", types.saturating_sub(named))?;
+            write!(text, ", and of {} other types", types.saturating_sub(named));
         }
-        Ok(())
     }
 }

@@ -201,7 +201,7 @@ fn flush(rt: &HostRuntime, views: &mut Views) -> Result<(), Failure>
     if views.printer.out.is_empty() {
         return Ok(());
     }
-    let wrote = print_bytes(rt, NAME, views.printer.out.as_bytes());
+    let wrote = print_bytes(rt, NAME, views.printer.out.as_str()?.as_bytes());
     views.printer.out.clear();
     wrote
 }

@@ -2,8 +2,13 @@
 
 ghost use Rattle.std.specs.Prelude.{◌≡◌};
 
+use crate::arguments::chosen::Chosen;
 use crate::heard::serf::queries::{Queries, Tally};
+use crate::listening::detecting::{Detected, Detecting};
+use crate::listening::setting::Setting;
 use crate::listening::watch::{News, Occurrence, Watch};
+use crate::shown::agent_log::AgentLog;
+use crate::text::written::Text;
 use std::alloc::{AllocError, Global};
 use std::collections::BTreeMap;
 use std::mem::replace;
@@ -14,37 +19,57 @@ pub(crate) struct Printer {
     alloc: Global,
     /// The queries that any view saw.
     queries: Queries,
+    /// What follows the probes of members.
+    detecting: Detecting,
     /// How often each event was printed.
     printed: BTreeMap<String, u64>,
     /// The output that was not printed yet.
-    pub(crate) out: String,
+    pub(crate) out: Text,
 }
 
 impl Printer {
-    /// Nothing to print.
-    pub(crate) fn new(alloc: Global) -> Printer {
+    /// Nothing to print. The logs of agents are held against what is heard.
+    pub(crate) fn new(alloc: Global, setting: Setting, logs: Vec<AgentLog>) -> Printer {
         Printer {
             alloc,
             queries: Queries::new(alloc),
+            detecting: Detecting::new(alloc, setting, logs),
             printed: BTreeMap::new(alloc),
-            out: String::new(alloc),
+            out: Text::new(alloc),
         }
     }
 
     /// Takes over what a view has to print.
-    pub(crate) fn collect(&mut self, watch: &mut Watch) -> Result<(), AllocError>
+    pub(crate) fn collect(&mut self, watch: &mut Watch, chosen: &Chosen) -> Result<(), AllocError>
         ensures { watch.new.listener ≡ watch.old.listener }
     {
         for sighting in replace(&mut watch.sightings, Vec::new(self.alloc)) {
             self.queries.note(sighting)?;
         }
-        self.out.push_str(&watch.out)?;
+        self.out.push_text(&watch.out);
         watch.out.clear();
         for news in &watch.news {
             self.print(news)?;
         }
         watch.news.clear();
+        self.detecting.take(&mut watch.notes, chosen)?;
+        self.print_detected(chosen);
         Ok(())
+    }
+
+    /// Prints what was told of suspicions, unless it is gathered.
+    fn print_detected(&mut self, chosen: &Chosen) {
+        if !chosen.verb.gathers() {
+            self.out.push_text(&self.detecting.out);
+            self.detecting.out.clear();
+        }
+    }
+
+    /// Shows what is shown of probes at the end, and returns what a report shows of them.
+    pub(crate) fn finish(&mut self, chosen: &Chosen) -> Result<Detected, AllocError> {
+        self.detecting.finish(chosen)?;
+        self.print_detected(chosen);
+        self.detecting.detected(chosen)
     }
 
     /// Prints an event, unless another view printed it.
@@ -54,7 +79,7 @@ impl Printer {
             None => true,
         };
         if is_new {
-            self.out.push_str(&news.line)?;
+            self.out.push_str(&news.line);
         }
         Ok(())
     }

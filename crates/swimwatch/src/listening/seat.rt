@@ -8,7 +8,6 @@ ghost use Rattle.swimwatch.specs.Viewed.{HasEnded, HasHeard, choice_in, first_vi
 use crate::listening::setting::Setting;
 use crate::listening::traffic::Traffic;
 use crate::listening::watch::Watch;
-use crate::shown::agent_log::AgentLog;
 use capture::Record;
 use std::alloc::{AllocError, Global};
 
@@ -25,13 +24,11 @@ impl<'a> Seat<'a> {
         alloc: Global,
         setting: Setting<'a>,
         name: Option<String>,
-        logs: Vec<AgentLog>,
     ) -> Result<Seat<'a>, AllocError>
         ensures { IfOk result (HasHeard (choice_in setting.entry) (first_view setting.entry) []) }
     {
         let mut watch = Watch::new(alloc, setting, name)?;
         watch.begin_with(setting.start)?;
-        watch.logs = logs;
         Ok(Seat {
             watch,
             traffic: Traffic::new(alloc),
@@ -51,7 +48,7 @@ impl<'a> Seat<'a> {
             → OnOk result (HasHeard (choice_in setting.entry) first
             (records ++ («record», bytes.now) ∷ []) self.new) }
     {
-        self.watch.capture = place;
+        self.watch.notes.capture = place;
         self.traffic
             .record(&mut self.watch, setting.filter(), record, bytes)
     }

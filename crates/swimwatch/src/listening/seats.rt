@@ -6,16 +6,15 @@ ghost use Rattle.swimwatch.specs.Seated.{AreAlike, EachHas, EachEnded, HasView, 
 ghost use Rattle.swimwatch.specs.Seating.{view_at};
 ghost use Rattle.swimwatch.specs.Viewed.{choice_in, first_view};
 
+use crate::listening::detecting::Detected;
 use crate::listening::printer::Printer;
 use crate::listening::seat::Seat;
 use crate::listening::seating::Seating;
 use crate::listening::setting::Setting;
-use crate::shown::agent_log::AgentLog;
-use crate::text::names::write_name;
+use crate::text::names::escaped_name;
 use crate::view::view_name::ViewNames;
 use capture::Record;
 use std::alloc::{AllocError, Global};
-use std::mem::replace;
 
 /// The views of captures, in the order in which they began.
 #[derive(Drop)]
@@ -25,13 +24,11 @@ pub(crate) struct Seats<'a> {
     pub(crate) seats: Vec<Seat<'a>>,
     seating: Seating,
     names: ViewNames<'a>,
-    /// The logs of agents, until a view has them.
-    logs: Vec<AgentLog>,
 }
 
 impl<'a> Seats<'a> {
-    /// No views yet. The first one has the logs of agents.
-    pub(crate) fn new(alloc: Global, setting: Setting<'a>, logs: Vec<AgentLog>) -> Seats<'a>
+    /// No views yet.
+    pub(crate) fn new(alloc: Global, setting: Setting<'a>) -> Seats<'a>
         ensures seats { result.seats.items ≡ [] }
         ensures setting { result.setting ≡ setting.entry }
     {
@@ -41,7 +38,6 @@ impl<'a> Seats<'a> {
             seats: Vec::new(alloc),
             seating: Seating::new(alloc),
             names: ViewNames::new(alloc, &setting.chosen.inputs),
-            logs,
         }
     }
 
@@ -114,8 +110,7 @@ impl<'a> Seats<'a> {
         ensures setting { self.new.setting ≡ self.old.setting }
     {
         let name = self.name(word)?;
-        let logs = replace(&mut self.logs, Vec::new(self.alloc));
-        let seat = Seat::new(self.alloc, self.setting, name, logs)?;
+        let seat = Seat::new(self.alloc, self.setting, name)?;
         self.seats.push(seat)?;
         Ok(())
     }
@@ -129,8 +124,7 @@ impl<'a> Seats<'a> {
         if self.setting.is_merged() || self.setting.chosen.inputs.len() < 2 {
             return Ok(None);
         }
-        let mut name = String::new(self.alloc);
-        write_name(&mut name, self.names.name(word)?.as_bytes())?;
+        let name = escaped_name(self.alloc, self.names.name(word)?.as_bytes())?;
         Ok(Some(name))
     }
 
@@ -140,7 +134,7 @@ impl<'a> Seats<'a> {
         ensures setting { self.new.setting ≡ self.old.setting }
     {
         match self.seats.get_mut(view) {
-            Some(seat) => printer.collect(&mut seat.watch),
+            Some(seat) => printer.collect(&mut seat.watch, self.setting.chosen),
             None => Ok(()),
         }
     }
@@ -168,12 +162,12 @@ impl<'a> Seats<'a> {
     }
 
     /// Has the view at this index show what is shown only at the end.
-    pub(crate) fn finish(&mut self, view: usize) -> Result<(), AllocError>
+    pub(crate) fn finish(&mut self, view: usize, detected: &Detected) -> Result<(), AllocError>
         ensures alike { OnOk result (AreAlike self.old.seats.items self.new.seats.items) }
         ensures setting { self.new.setting ≡ self.old.setting }
     {
         match self.seats.get_mut(view) {
-            Some(seat) => seat.watch.finish(),
+            Some(seat) => seat.watch.finish(detected),
             None => Ok(()),
         }
     }

@@ -125,7 +125,7 @@ impl Traffic {
         match &content.transport {
             Transport::Udp(datagram) => watch.datagram(filter.opening, sent, datagram.payload),
             Transport::Tcp(segment) => {
-                watch.detect_segment(&sent, segment)?;
+                watch.captured_segment(&sent, segment)?;
                 match Ends::of(content.source, content.destination, segment) {
                     Some(ends) => {
                         let connections = &mut self.connections;

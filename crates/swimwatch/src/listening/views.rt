@@ -17,6 +17,7 @@ use crate::shown::agent_log::AgentLog;
 use crate::shown::objects::write_roster;
 use crate::shown::serf_lines::write_tally;
 use crate::shown::serf_objects::write_tally_object;
+use crate::text::written::Text;
 use crate::view::agreement::{Voice, differing, fullest, opinions_in, write_views};
 use capture::Record;
 use std::alloc::{AllocError, Global};
@@ -27,7 +28,7 @@ enum Joint {
     /// As those of the view at this index, which knows all.
     View(usize),
     /// As this text.
-    Text(String),
+    Text(Text),
 }
 
 /// The views of captures, and what they print.
@@ -39,15 +40,15 @@ pub(crate) struct Views<'a> {
 }
 
 impl<'a> Views<'a> {
-    /// No views yet. The first has the logs of agents.
+    /// No views yet. The logs of agents are held against what is heard.
     pub(crate) fn new(alloc: Global, setting: Setting<'a>, logs: Vec<AgentLog>) -> Views<'a>
         ensures seats { result.seats.seats.items ≡ [] }
         ensures setting { result.seats.setting ≡ setting.entry }
     {
         Views {
             alloc,
-            seats: Seats::new(alloc, setting, logs),
-            printer: Printer::new(alloc),
+            seats: Seats::new(alloc, setting),
+            printer: Printer::new(alloc, setting, logs),
         }
     }
 
@@ -113,17 +114,18 @@ impl<'a> Views<'a> {
             self.new.seats.seats.items) }
         ensures setting { self.new.seats.setting ≡ self.old.seats.setting }
     {
-        let mut line = String::new(self.alloc);
+        let mut line = Text::new(self.alloc);
         let chosen = self.seats.setting.chosen;
         if chosen.json || chosen.verb.gathers() {
-            write_tally_object(&mut line, tally)?;
+            write_tally_object(&mut line, tally);
         } else {
-            write_tally(&mut line, tally)?;
+            write_tally(&mut line, tally);
         }
         if chosen.verb.gathers() && !self.seats.seats.is_empty() {
-            return self.seats.report(&line);
+            return self.seats.report(line.as_str()?);
         }
-        self.printer.out.push_str(&line)
+        self.printer.out.push_text(&line);
+        Ok(())
     }
 
     /// Shows what is shown only at the end.
@@ -153,7 +155,8 @@ impl<'a> Views<'a> {
     fn finish_view(&mut self, view: usize) -> Result<(), AllocError>
         ensures { OnOk result (AreAlike self.old.seats.seats.items self.new.seats.seats.items) }
     {
-        self.seats.finish(view)?;
+        let detected = self.printer.finish(self.seats.setting.chosen)?;
+        self.seats.finish(view, &detected)?;
         self.seats.print_all(&mut self.printer)
     }
 
@@ -163,7 +166,10 @@ impl<'a> Views<'a> {
     {
         match self.joint()? {
             Joint::View(view) => self.finish_view(view),
-            Joint::Text(text) => self.printer.out.push_str(&text),
+            Joint::Text(text) => {
+                self.printer.out.push_text(&text);
+                Ok(())
+            }
         }
     }
 
@@ -184,13 +190,13 @@ impl<'a> Views<'a> {
                 return Ok(Joint::View(view));
             }
         }
-        let mut text = String::new(self.alloc);
+        let mut text = Text::new(self.alloc);
         if !self.seats.setting.chosen.json {
-            write_views(&mut text, &voices, &opinions)?;
+            write_views(&mut text, &voices, &opinions);
             return Ok(Joint::Text(text));
         }
         for voice in &voices {
-            write_roster(&mut text, voice.name, voice.roster)?;
+            write_roster(&mut text, voice.name, voice.roster);
         }
         Ok(Joint::Text(text))
     }

@@ -1,8 +1,8 @@
 //! Listening to packets and streams.
 //!
 //! `datagrams` hears messages, `streams` connections, `serf_messages` what Serf says in both, and
-//! `intents` who leaves; `tallies` counts what senders sent; `detecting` follows their probes,
-//! `spreading` their news, `locating` their coordinates; `showing` shows what was asked for, and
+//! `intents` who leaves; `tallies` counts what senders sent; `noting` notes what tells of probes;
+//! `spreading` follows news, `locating` coordinates; `showing` shows what was asked for, and
 //! `reporting` all of it in one page.
 
 ghost use Rattle.std.specs.Prelude.{◌≡◌, ◌∷◌, [], IfOk, OnOk};
@@ -12,9 +12,9 @@ ghost use Rattle.swimwatch.specs.Viewed.{begin_with, said_at_start};
 ghost use Rattle.swimwatch.specs.Views.{HearsDatagram};
 
 mod datagrams;
-mod detecting;
 mod intents;
 mod locating;
+mod noting;
 mod reporting;
 mod serf_messages;
 mod showing;
@@ -26,6 +26,7 @@ use crate::arguments::chosen::Verb;
 use crate::chart::Chart;
 use crate::heard::carriage::{Carriage, Opening, carriage_of, is_of_cluster};
 use crate::heard::counts::{Counts, count};
+use crate::heard::noted::Notes;
 use crate::heard::pings::Pings;
 use crate::heard::sent::Sent;
 use crate::heard::serf::Serf;
@@ -33,7 +34,6 @@ use crate::heard::serf::queries::Sighting;
 use crate::heard::told::Told;
 use crate::heard::warnings::Warnings;
 use crate::listening::setting::Setting;
-use crate::shown::agent_log::AgentLog;
 use crate::shown::distances::Distances;
 use crate::shown::report::Gathered;
 use crate::shown::spread::Spread;
@@ -41,12 +41,10 @@ use crate::shown::talkers::{Kind, Talkers};
 use crate::text::moment::Clock;
 use crate::text::texts::NONE;
 use crate::text::window::Window;
+use crate::text::written::Text;
 use crate::view::listener::Listener;
 use crate::view::places::Places;
-use detecting::{causes_of, detector_of};
-use memberlist_causes::Causes;
 use memberlist_keyring::Keyring;
-use memberlist_probes::Detector;
 use memberlist_view::{Event, Heard, MemberName, Said};
 use spreading::spread_of;
 use std::alloc::{AllocError, Global};
@@ -105,25 +103,18 @@ pub(crate) struct Watch<'a> {
     gathered: Gathered,
     table: Table,
     pub(crate) counts: Counts,
-    /// What the failure detectors did, if that is asked for.
-    detector: Option<Detector>,
-    /// Why members were suspected, if that is asked for.
-    causes: Option<Causes>,
-    /// The logs of agents, which are held against the captures.
-    pub(crate) logs: Vec<AgentLog>,
+    /// What is noted of probes, until it is taken.
+    pub(crate) notes: Notes,
     /// How news spread, if that is asked for.
     spread: Option<Spread>,
-    /// The number of the capture whose record is taken in.
-    pub(crate) capture: usize,
-    /// Whose probes are shown, and of whom.
-    pub(crate) prober: Option<Vec<u8>>,
-    pub(crate) target: Option<Vec<u8>>,
+    /// Whose distances from others are shown, if one is chosen.
+    target: Option<Vec<u8>>,
     /// How often each event came.
     came: BTreeMap<String, u64>,
     /// The events that were not printed yet.
     pub(crate) news: Vec<News>,
     /// The other output that was not printed yet.
-    pub(crate) out: String,
+    pub(crate) out: Text,
     clock: Clock,
 }
 
@@ -145,7 +136,6 @@ impl<'a> Watch<'a> {
             ..
         } = setting;
         let member = copied(alloc, &chosen.member)?;
-        let prober = copied(alloc, &chosen.probing.prober)?;
         let target = copied(alloc, &chosen.probing.target)?;
         let gathered = Gathered::new(alloc, chosen)?;
         Ok(Watch {
@@ -170,16 +160,12 @@ impl<'a> Watch<'a> {
             gathered,
             table: Table::new(alloc),
             counts: Counts::default(),
-            detector: detector_of(alloc, chosen, &window),
-            causes: causes_of(alloc, chosen),
-            logs: Vec::new(alloc),
+            notes: Notes::new(alloc, chosen.verb.detects()),
             spread: spread_of(alloc, chosen),
-            capture: 0,
-            prober,
             target,
             came: BTreeMap::new(alloc),
             news: Vec::new(alloc),
-            out: String::new(alloc),
+            out: Text::new(alloc),
             clock: Clock::new(alloc),
         })
     }
@@ -221,7 +207,7 @@ impl<'a> Watch<'a> {
         count(&mut self.counts.datagrams);
         self.reach(sent.time);
         if self.verb.tells_news() {
-            self.serf.note(self.capture, &sent)?;
+            self.serf.note(self.notes.capture, &sent)?;
         }
         if !is_of_cluster(opening.label, payload) {
             count(&mut self.counts.other_labels);
@@ -289,9 +275,17 @@ impl<'a> Watch<'a> {
             ≡ view_after self.old.listener.view (heard_of sent.time (told_text told.now))) }
     {
         let heard = told.heard(self.alloc, sent.time)?;
-        let event = self.take_in(&heard)?;
+        self.hear_told(&sent, told, &heard)
+    }
+
+    /// Hears this, which a message says, and shows it.
+    fn hear_told(&mut self, sent: &Sent, told: &Told, heard: &Heard) -> Result<(), AllocError>
+        ensures view { OnOk result (self.new.listener.view
+            ≡ view_after self.old.listener.view heard.now) }
+    {
+        let event = self.take_in(heard)?;
         self.places.note(told.claim, sent.time)?;
-        self.show(&sent, told, heard.said.name(), event)
+        self.show(sent, told, heard.said.name(), event)
     }
 }
 

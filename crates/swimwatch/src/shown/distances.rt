@@ -2,9 +2,10 @@
 
 use crate::arguments::chosen::{Chosen, Verb};
 use crate::shown::probes::time_text;
-use crate::text::columns::{Rows, row_of_words};
+use crate::text::columns::Rows;
 use crate::text::json::Object;
 use crate::text::texts::name_text;
+use crate::text::written::Text;
 use memberlist_view::MemberName;
 use serf_message::Coordinate;
 use serf_view::round_trip;
@@ -118,39 +119,34 @@ impl Distances {
     }
 
     /// Adds a header, and a row for each pair.
-    pub(crate) fn write(
-        &self,
-        text: &mut String,
-        target: &Option<Vec<u8>>,
-    ) -> Result<(), AllocError> {
-        let mut rows = Rows::new(self.alloc);
-        rows.push(row_of_words(self.alloc, &["FROM", "TO", "RTT-MS"])?)?;
-        for pair in &self.pairs(target)? {
-            let mut row = Vec::new(self.alloc);
-            row.push(name_text(self.alloc, pair.from)?)?;
-            row.push(name_text(self.alloc, pair.to)?)?;
-            row.push(time_text(self.alloc, pair.micros())?)?;
-            rows.push(row)?;
+    pub(crate) fn write(&self, text: &mut Text, target: &Option<Vec<u8>>) {
+        let Some(pairs) = text.made(self.pairs(target)) else {
+            return;
+        };
+        let mut rows = Rows::below(self.alloc, &["FROM", "TO", "RTT-MS"]);
+        for pair in &pairs {
+            rows.cell(name_text(self.alloc, pair.from));
+            rows.cell(name_text(self.alloc, pair.to));
+            rows.cell(time_text(self.alloc, pair.micros()));
+            rows.end_row();
         }
-        rows.write(text)
+        rows.write(text);
     }
 
     /// Adds the same as JSON objects, one per line.
-    pub(crate) fn write_objects(
-        &self,
-        text: &mut String,
-        target: &Option<Vec<u8>>,
-    ) -> Result<(), AllocError> {
-        for pair in &self.pairs(target)? {
+    pub(crate) fn write_objects(&self, text: &mut Text, target: &Option<Vec<u8>>) {
+        let Some(pairs) = text.made(self.pairs(target)) else {
+            return;
+        };
+        for pair in &pairs {
             let mut object = Object::new(self.alloc);
-            object.text("from", name_text(self.alloc, pair.from)?)?;
-            object.text("to", name_text(self.alloc, pair.to)?)?;
+            object.text("from", name_text(self.alloc, pair.from));
+            object.text("to", name_text(self.alloc, pair.to));
             if let Some(micros) = pair.micros() {
-                object.number("rtt_us", micros)?;
+                object.number("rtt_us", micros);
             }
-            object.write(text)?;
+            object.write(text);
         }
-        Ok(())
     }
 }
 

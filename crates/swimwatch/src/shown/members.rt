@@ -5,7 +5,7 @@ ghost use Rattle.swimwatch.specs.Members.{is_since, member_of};
 
 use crate::shown::deadline::{Deadline, Member};
 use crate::shown::objects::write_member;
-use crate::text::columns::{Rows, row_of_words};
+use crate::text::columns::Rows;
 use crate::text::endpoint::endpoint;
 use crate::text::moment::write_moment;
 use crate::text::names::write_name;
@@ -14,6 +14,7 @@ use crate::text::texts::{
     address_text, by_text, inc_text, meta_of, meta_text, moment_text, name_text, place_text,
     shown_state,
 };
+use crate::text::written::Text;
 use crate::view::listener::Listener;
 use crate::view::places::Places;
 use memberlist_view::{Entry, MemberName};
@@ -55,105 +56,87 @@ impl<'a> Cluster<'a> {
 
 /// Adds the members that a listener knows: a header, and a row for each in ascending order of the
 /// names; and a line for each conflict.
-pub(crate) fn write_members(text: &mut String, cluster: Cluster) -> Result<(), AllocError> {
-    write_rows(text, cluster)?;
+pub(crate) fn write_members(text: &mut Text, cluster: Cluster) {
+    write_rows(text, cluster);
     for (name, entry) in cluster.listener.view.iter() {
         for rival in entry.rivals.details() {
-            write_conflict(text, cluster.places, name, entry, rival)?;
+            write_conflict(text, cluster.places, name, entry, rival);
         }
     }
-    Ok(())
 }
 
 /// Adds the same as JSON objects, one per line.
-pub(crate) fn write_member_objects(text: &mut String, cluster: Cluster) -> Result<(), AllocError> {
-    for Member { name, entry } in cluster.members(*text.allocator())? {
+pub(crate) fn write_member_objects(text: &mut Text, cluster: Cluster) {
+    let Some(members) = text.made(cluster.members(text.alloc())) else {
+        return;
+    };
+    for Member { name, entry } in members {
         let (state, is_overdue) = (cluster.state(name, entry), cluster.is_overdue(entry));
-        write_member(text, cluster.places, name, entry, state, is_overdue)?;
+        write_member(text, cluster.places, name, entry, state, is_overdue);
     }
-    Ok(())
 }
 
 /// Adds a line for another agent of a name: `web-4 conflict at 10.20.1.9:7946, last heard
 /// 2026-11-25T02:01:43.010456Z, and is at 10.20.1.15:7946, last heard 2026-11-25T02:01:39.007123Z`.
 fn write_conflict(
-    text: &mut String,
+    text: &mut Text,
     places: &Places,
     name: &MemberName,
     entry: &Entry,
     rival: &Details,
-) -> Result<(), AllocError> {
+) {
     let bytes = name.name().bytes();
-    write_name(text, bytes)?;
-    text.push_str(" conflict at ")?;
-    write_last(text, places, bytes, rival)?;
+    write_name(text, bytes);
+    text.push_str(" conflict at ");
+    write_last(text, places, bytes, rival);
     if let Some(place) = entry.place() {
-        text.push_str(", and is at ")?;
-        write_last(text, places, bytes, place)?;
+        text.push_str(", and is at ");
+        write_last(text, places, bytes, place);
     }
     text.push('\n')
 }
 
 /// Adds an address of a name, and when it was last heard.
-fn write_last(
-    text: &mut String,
-    places: &Places,
-    name: &[u8],
-    place: &Details,
-) -> Result<(), AllocError> {
-    text.push_str(&address_text(*text.allocator(), place)?)?;
+fn write_last(text: &mut Text, places: &Places, name: &[u8], place: &Details) {
+    text.add(address_text(text.alloc(), place));
     let Some(end) = endpoint(place.addr(), place.port()) else {
-        return Ok(());
+        return;
     };
-    if let Some(last) = places.last(name, end)? {
-        text.push_str(", last heard ")?;
-        write_moment(text, last)?;
+    if let Some(Some(last)) = text.made(places.last(name, end)) {
+        text.push_str(", last heard ");
+        write_moment(text, last);
     }
-    Ok(())
 }
 
 /// Adds a header, and a row for each name.
-fn write_rows(text: &mut String, cluster: Cluster) -> Result<(), AllocError> {
-    let alloc = *text.allocator();
+fn write_rows(text: &mut Text, cluster: Cluster) {
+    let alloc = text.alloc();
     let view = &cluster.listener.view;
     let has_tags = view.iter().any(|(_, entry)| !is_bare(meta_of(entry)));
-    let mut rows = Rows::new(alloc);
-    rows.push(head(alloc, has_tags)?)?;
-    for Member { name, entry } in cluster.members(alloc)? {
-        rows.push(row_of(alloc, cluster, name, entry, has_tags)?)?;
+    let tags = if has_tags { "TAGS" } else { "" };
+    let heads = ["NAME", "ADDRESS", "STATE", "INC", "SINCE", "BY", tags];
+    let mut rows = Rows::below(alloc, &heads);
+    let Some(members) = text.made(cluster.members(alloc)) else {
+        return;
+    };
+    for Member { name, entry } in members {
+        add_row(&mut rows, cluster, name, entry);
     }
-    rows.write(text)
+    rows.write(text);
 }
 
-fn head(alloc: Global, has_tags: bool) -> Result<Vec<String>, AllocError> {
-    let mut row = row_of_words(alloc, &["NAME", "ADDRESS", "STATE", "INC", "SINCE", "BY"])?;
-    if has_tags {
-        row.push(String::from_str(alloc, "TAGS")?)?;
-    }
-    Ok(row)
-}
-
-fn row_of(
-    alloc: Global,
-    cluster: Cluster,
-    name: &MemberName,
-    entry: &Entry,
-    has_tags: bool,
-) -> Result<Vec<String>, AllocError> {
-    let mut row = Vec::new(alloc);
-    row.push(name_text(alloc, name)?)?;
-    row.push(place_text(alloc, entry)?)?;
-    let state = if cluster.is_overdue(entry) {
+fn add_row(rows: &mut Rows, cluster: Cluster, name: &MemberName, entry: &Entry) {
+    let alloc = rows.alloc();
+    rows.cell(name_text(alloc, name));
+    rows.cell(place_text(alloc, entry));
+    rows.word(if cluster.is_overdue(entry) {
         "overdue"
     } else {
         cluster.state(name, entry)
-    };
-    row.push(String::from_str(alloc, state)?)?;
-    row.push(inc_text(alloc, entry)?)?;
-    row.push(moment_text(alloc, entry.since)?)?;
-    row.push(by_text(alloc, name, &entry.state)?)?;
-    if has_tags {
-        row.push(meta_text(alloc, meta_of(entry))?)?;
-    }
-    Ok(row)
+    });
+    rows.cell(inc_text(alloc, entry));
+    rows.cell(moment_text(alloc, entry.since));
+    rows.cell(by_text(alloc, name, &entry.state));
+    rows.cell(meta_text(alloc, meta_of(entry)));
+    rows.end_row();
 }

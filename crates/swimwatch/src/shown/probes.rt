@@ -1,11 +1,10 @@
 //! What each prober made of its probes of each target.
 
-use crate::text::columns::{Rows, row_of_words};
-use crate::text::json::Object;
-use crate::text::names::write_name;
-use crate::text::texts::{NONE, millis_text};
+use crate::text::columns::Rows;
+use crate::text::json::{List, Object};
+use crate::text::texts::{Millis, NONE};
+use crate::text::written::Text;
 use memberlist_probes::{Delays, Explanation, Left, Pair, Pairs};
-use serde_json::Value;
 use std::alloc::{AllocError, Global};
 
 /// Which pairs are shown.
@@ -37,48 +36,33 @@ const HEADS: [&str; 13] = [
 ];
 
 /// Writes a row for each pair. Round trips are in milliseconds.
-pub(crate) fn write_pairs(
-    alloc: Global,
-    text: &mut String,
-    pairs: &Pairs,
-    shown: Shown,
-) -> Result<(), AllocError> {
-    let mut rows = Rows::new(alloc);
-    rows.push(row_of_words(alloc, &HEADS)?)?;
+pub(crate) fn write_pairs(alloc: Global, text: &mut Text, pairs: &Pairs, shown: Shown) {
+    let mut rows = Rows::below(alloc, &HEADS);
     for ((prober, target), pair) in pairs.all() {
         if shown.has(prober, target) {
-            rows.push(row_of(alloc, prober, target, pair)?)?;
+            add_row(&mut rows, prober, target, pair);
         }
     }
-    rows.write(text)
+    rows.write(text);
 }
 
-fn row_of(
-    alloc: Global,
-    prober: &[u8],
-    target: &[u8],
-    pair: &Pair,
-) -> Result<Vec<String>, AllocError> {
-    let mut row = Vec::new(alloc);
-    for name in [prober, target] {
-        let mut text = String::new(alloc);
-        write_name(&mut text, name)?;
-        row.push(text)?;
-    }
+fn add_row(rows: &mut Rows, prober: &[u8], target: &[u8], pair: &Pair) {
+    rows.name(prober);
+    rows.name(target);
     for number in numbers_of(pair) {
-        row.push(format!(in alloc; "{number}")?)?;
+        rows.number(number);
     }
     let times = &pair.round_trips;
     for time in [times.percentile(50), times.percentile(90), times.greatest()] {
-        row.push(time_text(alloc, time)?)?;
+        rows.cell(time_text(rows.alloc(), time));
     }
-    Ok(row)
+    rows.end_row();
 }
 
 /// A time in milliseconds, or `-` if there is none.
 pub(crate) fn time_text(alloc: Global, time: Option<u64>) -> Result<String, AllocError> {
     match time {
-        Some(micros) => millis_text(alloc, micros),
+        Some(micros) => format!(in alloc; "{}", Millis(micros)),
         None => String::from_str(alloc, NONE),
     }
 }
@@ -104,60 +88,50 @@ const KEYS: [&str; 8] = [
 ];
 
 /// Writes an object for each pair.
-pub(crate) fn write_pair_objects(
-    alloc: Global,
-    text: &mut String,
-    pairs: &Pairs,
-    shown: Shown,
-) -> Result<(), AllocError> {
+pub(crate) fn write_pair_objects(alloc: Global, text: &mut Text, pairs: &Pairs, shown: Shown) {
     for ((prober, target), pair) in pairs.all() {
         if !shown.has(prober, target) {
             continue;
         }
         let mut object = Object::new(alloc);
-        object.escaped("from", prober)?;
-        object.escaped("to", target)?;
+        object.escaped("from", prober);
+        object.escaped("to", target);
         for (key, number) in KEYS.iter().zip(numbers_of(pair)) {
-            object.number(key, number)?;
+            object.number(key, number);
         }
-        object.number("unread", pair.unread)?;
-        object.object("rtt_us", times_object(alloc, &pair.round_trips)?)?;
-        let mut maybe = Vec::new(alloc);
+        object.number("unread", pair.unread);
+        object.object("rtt_us", times_object(alloc, &pair.round_trips));
+        let mut maybe = List::new(alloc);
         for (left, probes) in &pair.maybe {
             let mut one = Object::new(alloc);
-            one.list("of", explanations_of(alloc, left)?)?;
-            one.number("probes", *probes)?;
-            maybe.push(one.value())?;
+            one.list("of", explanations_of(alloc, left));
+            one.number("probes", *probes);
+            maybe.object(one);
         }
-        object.list("maybe", maybe)?;
-        object.write(text)?;
+        object.list("maybe", maybe);
+        object.write(text);
     }
-    Ok(())
 }
 
 /// The median, the 90th percentile and the greatest of times, if there are any.
-pub(crate) fn times_object(alloc: Global, times: &Delays) -> Result<Option<Object>, AllocError> {
-    let (Some(half), Some(most), Some(all)) = (
-        times.percentile(50),
-        times.percentile(90),
-        times.greatest(),
-    ) else {
-        return Ok(None);
-    };
+pub(crate) fn times_object(alloc: Global, times: &Delays) -> Option<Object> {
+    let half = times.percentile(50)?;
+    let most = times.percentile(90)?;
+    let all = times.greatest()?;
     let mut object = Object::new(alloc);
-    object.number("p50", half)?;
-    object.number("p90", most)?;
-    object.number("max", all)?;
-    Ok(Some(object))
+    object.number("p50", half);
+    object.number("p90", most);
+    object.number("max", all);
+    Some(object)
 }
 
 /// The words for the explanations that are left.
-pub(crate) fn explanations_of(alloc: Global, left: &Left) -> Result<Vec<Value>, AllocError> {
-    let mut words = Vec::new(alloc);
+pub(crate) fn explanations_of(alloc: Global, left: &Left) -> List {
+    let mut words = List::new(alloc);
     for (explanation, is_left) in Explanation::ALL.iter().zip(left) {
         if *is_left {
-            words.push(Value::String(String::from_str(alloc, explanation.words())?))?;
+            words.word(explanation.words());
         }
     }
-    Ok(words)
+    words
 }

@@ -15,7 +15,8 @@ mod script;
 mod style;
 
 use crate::arguments::chosen::Chosen;
-use crate::text::names::write_name;
+use crate::text::names::escaped_name;
+use crate::text::written::Text;
 use block::write_block;
 use html::{AFTER_PICTURE, BEFORE_PICTURE, BEFORE_STYLE, END};
 use script::SCRIPT;
@@ -28,9 +29,7 @@ pub(crate) struct Gathered {
     /// The files of the captures, escaped as names are.
     pub(crate) captures: Vec<String>,
     /// The objects of what changed, as `timeline` prints them.
-    pub(crate) timeline: String,
-    /// The objects of what was told of suspicions, as `why` prints them.
-    pub(crate) episodes: String,
+    pub(crate) timeline: Text,
 }
 
 impl Gathered {
@@ -43,8 +42,7 @@ impl Gathered {
         };
         Ok(Gathered {
             captures,
-            timeline: String::new(alloc),
-            episodes: String::new(alloc),
+            timeline: Text::new(alloc),
         })
     }
 }
@@ -53,9 +51,7 @@ impl Gathered {
 fn names_in(alloc: Global, words: &[String]) -> Result<Vec<String>, AllocError> {
     let mut names = Vec::new(alloc);
     for word in words {
-        let mut name = String::new(alloc);
-        write_name(&mut name, word.as_bytes())?;
-        names.push(name)?;
+        names.push(escaped_name(alloc, word.as_bytes())?)?;
     }
     Ok(names)
 }
@@ -70,7 +66,7 @@ pub(crate) struct Report<'a> {
     /// The members at the end.
     pub(crate) members: String,
     /// What each prober made of its probes of each target.
-    pub(crate) probes: String,
+    pub(crate) probes: &'a str,
     /// When somebody was suspected or probes failed, and why.
     pub(crate) episodes: &'a str,
     /// What changed.
@@ -79,11 +75,7 @@ pub(crate) struct Report<'a> {
 
 impl<'a> Report<'a> {
     /// Adds the page. All its bytes are printable ASCII and line feeds.
-    ///
-    /// # Errors
-    ///
-    /// If out of memory for the text.
-    pub(crate) fn write(&self, text: &mut String) -> Result<(), AllocError> {
+    pub(crate) fn write(&self, text: &mut Text) {
         for part in [
             BEFORE_STYLE,
             STYLE,
@@ -91,16 +83,16 @@ impl<'a> Report<'a> {
             &self.picture,
             AFTER_PICTURE,
         ] {
-            text.push_str(part)?;
+            text.push_str(part);
         }
-        write_block(text, "about", &self.about)?;
-        write_block(text, "members", &self.members)?;
-        write_block(text, "why", self.episodes)?;
-        write_block(text, "probes", &self.probes)?;
-        write_block(text, "timeline", self.timeline)?;
+        write_block(text, "about", &self.about);
+        write_block(text, "members", &self.members);
+        write_block(text, "why", self.episodes);
+        write_block(text, "probes", self.probes);
+        write_block(text, "timeline", self.timeline);
         for part in SCRIPT {
-            text.push_str(part)?;
+            text.push_str(part);
         }
-        text.push_str(END)
+        text.push_str(END);
     }
 }

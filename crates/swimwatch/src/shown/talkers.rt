@@ -7,6 +7,7 @@ use crate::heard::counts::count;
 use crate::text::columns::Rows;
 use crate::text::endpoint::endpoint;
 use crate::text::json::Object;
+use crate::text::written::Text;
 use crate::view::listener::Listener;
 use memberlist_message::Message;
 use memberlist_view::Said;
@@ -232,39 +233,38 @@ impl Talkers {
     }
 
     /// Adds a row for each sender, in the order of their texts.
-    pub(crate) fn write(&self, text: &mut String, listener: &Listener) -> Result<(), AllocError> {
-        let alloc = *text.allocator();
-        let mut rows = Rows::new(alloc);
-        rows.push(head(alloc)?)?;
-        for (sender, tally) in self.by_text(alloc, listener)?.iter() {
-            let mut row = Vec::new(alloc);
-            row.push(sender.clone()?)?;
+    pub(crate) fn write(&self, text: &mut Text, listener: &Listener) {
+        let alloc = text.alloc();
+        let Some(tallies) = text.made(self.by_text(alloc, listener)) else {
+            return;
+        };
+        let mut rows = Rows::below(alloc, &heads());
+        for (sender, tally) in tallies.iter() {
+            rows.word(sender);
             for number in &tally.counts {
-                row.push(format!(in alloc; "{number}")?)?;
+                rows.number(*number);
             }
-            row.push(format!(in alloc; "{}", tally.bytes)?)?;
-            rows.push(row)?;
+            rows.number(tally.bytes);
+            rows.end_row();
         }
-        rows.write(text)
+        rows.write(text);
     }
 
     /// Adds an object for each sender.
-    pub(crate) fn write_objects(
-        &self,
-        text: &mut String,
-        listener: &Listener,
-    ) -> Result<(), AllocError> {
-        let alloc = *text.allocator();
-        for (sender, tally) in self.by_text(alloc, listener)?.iter() {
+    pub(crate) fn write_objects(&self, text: &mut Text, listener: &Listener) {
+        let alloc = text.alloc();
+        let Some(tallies) = text.made(self.by_text(alloc, listener)) else {
+            return;
+        };
+        for (sender, tally) in tallies.iter() {
             let mut object = Object::new(alloc);
-            object.text("sender", sender.clone()?)?;
+            object.word("sender", sender);
             for (number, head) in tally.counts.iter().zip(&HEADS) {
-                object.number(head.1, *number)?;
+                object.number(head.1, *number);
             }
-            object.number("bytes", tally.bytes)?;
-            object.write(text)?;
+            object.number("bytes", tally.bytes);
+            object.write(text);
         }
-        Ok(())
     }
 }
 
@@ -306,14 +306,14 @@ fn end_in(said: &Said) -> Option<SocketAddr> {
     }
 }
 
-fn head(alloc: Global) -> Result<Vec<String>, AllocError> {
-    let mut row = Vec::new(alloc);
-    row.push(String::from_str(alloc, "SENDER")?)?;
-    for head in &HEADS {
-        row.push(String::from_str(alloc, head.0)?)?;
+/// The headers of the columns.
+fn heads() -> [&'static str; KINDS + 2] {
+    let mut heads = ["SENDER"; KINDS + 2];
+    for (head, kind) in heads.iter_mut().skip(1).zip(&HEADS) {
+        *head = kind.0;
     }
-    row.push(String::from_str(alloc, "BYTES")?)?;
-    Ok(row)
+    heads[KINDS + 1] = "BYTES";
+    heads
 }
 
 /// The endpoint without its port, since a connection comes from a port of its own.

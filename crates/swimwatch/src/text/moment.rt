@@ -1,5 +1,6 @@
 //! Moments in the format of RFC 3339.
 
+use crate::text::written::Text;
 use jiff::Timestamp;
 use std::alloc::{AllocError, Global};
 
@@ -9,12 +10,8 @@ const FORMAT: &str = "%Y-%m-%dT%H:%M:%S.%6fZ";
 /// Adds a moment in microseconds since the start of 1970, in UTC and the format of RFC 3339:
 /// `2026-11-25T02:01:22.006000Z`. From the last two days of the year 9999 on, which `jiff` cannot
 /// represent, it is `after 9999`.
-///
-/// # Errors
-///
-/// If out of memory for the text.
-pub(crate) fn write_moment(text: &mut String, micros: u64) -> Result<(), AllocError> {
-    write_as(text, micros, FORMAT)
+pub(crate) fn write_moment(text: &mut Text, micros: u64) {
+    write_as(text, micros, FORMAT);
 }
 
 /// The format of a moment up to the fraction of its second.
@@ -24,49 +21,47 @@ const SECOND_FORMAT: &str = "%Y-%m-%dT%H:%M:%S.";
 /// what is written of it.
 #[derive(Drop)]
 pub(crate) struct Clock {
-    /// Seconds since the start of 1970.
-    second: u64,
-    /// The text of that second; empty before the first moment.
-    text: String,
+    /// The second whose text is there, in seconds since the start of 1970.
+    second: Option<u64>,
+    text: Text,
 }
 
 impl Clock {
     pub(crate) fn new(alloc: Global) -> Clock {
         Clock {
-            second: 0,
-            text: String::new(alloc),
+            second: None,
+            text: Text::new(alloc),
         }
     }
 
     /// Adds a moment, as [`write_moment`] does.
-    ///
-    /// # Errors
-    ///
-    /// If out of memory for the text.
-    pub(crate) fn write(&mut self, text: &mut String, micros: u64) -> Result<(), AllocError> {
+    pub(crate) fn write(&mut self, text: &mut Text, micros: u64) {
         if timestamp(micros).is_none() {
             return write_moment(text, micros);
         }
         let second = micros / SECOND;
-        if self.text.is_empty() || second != self.second {
-            let mut shown = String::new(*text.allocator());
-            write_as(&mut shown, second * SECOND, SECOND_FORMAT)?;
-            self.text = shown;
-            self.second = second;
+        if self.second != Some(second) {
+            self.text.clear();
+            write_as(&mut self.text, second * SECOND, SECOND_FORMAT);
+            self.second = if self.text.as_str().is_ok() {
+                Some(second)
+            } else {
+                None
+            };
         }
-        text.push_str(&self.text)?;
-        write!(text, "{:06}Z", micros % SECOND)
+        text.push_text(&self.text);
+        write!(text, "{:06}Z", micros % SECOND);
     }
 }
 
 /// Adds a moment in the same way, in a format of `strftime` in UTC.
-pub(crate) fn write_as(text: &mut String, micros: u64, format: &str) -> Result<(), AllocError> {
+pub(crate) fn write_as(text: &mut Text, micros: u64, format: &str) {
     let Some(moment) = timestamp(micros) else {
         return text.push_str("after 9999");
     };
-    match moment.strftime(*text.allocator(), format) {
+    match moment.strftime(text.alloc(), format) {
         Ok(shown) => text.push_str(&shown),
-        Err(_) => Err(AllocError),
+        Err(_) => text.refuse(),
     }
 }
 

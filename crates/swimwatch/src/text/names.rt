@@ -1,5 +1,6 @@
 //! Names in lines.
 
+use crate::text::written::Text;
 use percent_encoding::{AsciiSet, CONTROLS, ascii_set, percent_decode, percent_encode};
 use std::alloc::{AllocError, Global};
 
@@ -9,16 +10,19 @@ const ESCAPED: AsciiSet = ascii_set!(CONTROLS.add(b' ').add(b'%'));
 
 /// Adds a name, escaped: printable UTF-8 is kept, and every byte of something else, of a space and
 /// of `%` is `%XX`.
-pub(crate) fn write_name(text: &mut String, name: &[u8]) -> Result<(), AllocError> {
-    write_readable(text, name, ESCAPED)
+pub(crate) fn write_name(text: &mut Text, name: &[u8]) {
+    write_readable(text, name, ESCAPED);
+}
+
+/// An escaped name, as [`write_name`] adds it.
+pub(crate) fn escaped_name(alloc: Global, name: &[u8]) -> Result<String, AllocError> {
+    let mut text = Text::new(alloc);
+    write_name(&mut text, name);
+    text.end()
 }
 
 /// Adds bytes in which all but printable UTF-8 is escaped, and what is in this set.
-pub(crate) fn write_readable(
-    text: &mut String,
-    bytes: &[u8],
-    escaped: AsciiSet,
-) -> Result<(), AllocError> {
+pub(crate) fn write_readable(text: &mut Text, bytes: &[u8], escaped: AsciiSet) {
     let mut rest = bytes;
     for _ in 0..bytes.len() {
         let len = printable_len(rest);
@@ -27,13 +31,12 @@ pub(crate) fn write_readable(
             break;
         };
         if len > 0 {
-            text.push_str(&String::from_utf8_lossy(*text.allocator(), shown)?)?;
+            text.add(String::from_utf8_lossy(text.alloc(), shown));
         } else {
-            percent_encode(shown, escaped).append_to(text)?;
+            text.push_encoded(percent_encode(shown, escaped));
         }
         rest = behind;
     }
-    Ok(())
 }
 
 /// How many ASCII characters there are at the start.

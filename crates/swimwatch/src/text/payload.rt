@@ -3,8 +3,8 @@
 ghost use Rattle.std.specs.Prelude.{◌≡◌, IfSome};
 
 use crate::text::names::{is_printable, write_readable};
+use crate::text::written::Text;
 use percent_encoding::{AsciiSet, CONTROLS, ascii_set};
-use std::alloc::AllocError;
 
 /// The most bytes of a payload that a line shows.
 const MAX_SHOWN: usize = 64;
@@ -16,28 +16,27 @@ const ESCAPED: AsciiSet = ascii_set!(CONTROLS.add(b'%').add(b'\'').add(b'\\'));
 /// Adds a payload. If it is printable UTF-8, that is its text in single quotes, escaped; otherwise
 /// its bytes in hexadecimal. Of more than 64 bytes it has the first 64, or as many of these as are
 /// whole characters, and then `..`. Of an empty payload it has nothing.
-pub(crate) fn write_payload(text: &mut String, payload: &[u8]) -> Result<(), AllocError> {
+pub(crate) fn write_payload(text: &mut Text, payload: &[u8]) {
     if payload.is_empty() {
-        return Ok(());
+        return;
     }
     let shown = match payload_text(payload) {
         Some(whole) => {
             let (shown, _) = whole.split_at(whole.floor_char_boundary(MAX_SHOWN));
-            text.push('\'')?;
-            write_readable(text, shown.as_bytes(), ESCAPED)?;
-            text.push('\'')?;
+            text.push('\'');
+            write_readable(text, shown.as_bytes(), ESCAPED);
+            text.push('\'');
             shown.len()
         }
         None => {
             let shown = payload.get(..MAX_SHOWN).unwrap_or(payload);
-            text.push_str(&hex::encode(*text.allocator(), shown)?)?;
+            text.add(hex::encode(text.alloc(), shown));
             shown.len()
         }
     };
     if shown < payload.len() {
-        text.push_str("..")?;
+        text.push_str("..");
     }
-    Ok(())
 }
 
 /// The text of a payload, if all of it is printable UTF-8: visible ASCII characters and spaces, and

@@ -8,6 +8,7 @@ ghost use Rattle.swimwatch.specs.Knowing.{body_of, has_tags_of, is_same_meta, re
 ghost use Rattle.swimwatch.specs.Knowing.{value_of, whole_tags};
 
 use crate::text::names::write_readable;
+use crate::text::written::Text;
 use byteorder::{BigEndian, ByteOrder};
 use percent_encoding::{AsciiSet, CONTROLS, ascii_set};
 use std::alloc::{AllocError, Global};
@@ -33,15 +34,15 @@ pub(crate) struct Tag<'a> {
 
 impl Tag<'_> {
     /// Adds the tag, escaped, such as `role=web`.
-    pub(crate) fn write(&self, text: &mut String) -> Result<(), AllocError> {
-        write_readable(text, self.key, ESCAPED)?;
-        text.push('=')?;
-        self.write_value(text)
+    pub(crate) fn write(&self, text: &mut Text) {
+        write_readable(text, self.key, ESCAPED);
+        text.push('=');
+        self.write_value(text);
     }
 
     /// Adds its value, escaped.
-    pub(crate) fn write_value(&self, text: &mut String) -> Result<(), AllocError> {
-        write_readable(text, self.value, ESCAPED)
+    pub(crate) fn write_value(&self, text: &mut Text) {
+        write_readable(text, self.value, ESCAPED);
     }
 }
 
@@ -210,20 +211,20 @@ pub(crate) fn is_bare(meta: &[u8]) -> bool {
 
 /// Adds metadata in readable form: tags as `dc=east,role=web`, and anything else as bytes in
 /// hexadecimal.
-pub(crate) fn write_meta(text: &mut String, meta: &[u8]) -> Result<(), AllocError> {
-    let alloc = *text.allocator();
-    match tags_of(alloc, meta)? {
-        Some(tags) => write_tags(text, &tags),
-        None => text.push_str(&hex::encode(alloc, meta)?),
+pub(crate) fn write_meta(text: &mut Text, meta: &[u8]) {
+    let alloc = text.alloc();
+    match text.made(tags_of(alloc, meta)) {
+        Some(Some(tags)) => write_tags(text, &tags),
+        Some(None) => text.add(hex::encode(alloc, meta)),
+        None => {}
     }
 }
 
-fn write_tags(text: &mut String, tags: &[Tag]) -> Result<(), AllocError> {
+fn write_tags(text: &mut Text, tags: &[Tag]) {
     let mut between = "";
     for tag in tags {
-        text.push_str(between)?;
-        tag.write(text)?;
+        text.push_str(between);
+        tag.write(text);
         between = ",";
     }
-    Ok(())
 }

@@ -2,10 +2,12 @@
 
 use crate::text::endpoint::endpoint;
 use crate::text::moment::write_moment;
-use crate::text::names::write_name;
+use crate::text::names::{escaped_name, write_name};
 use crate::text::tags::write_meta;
+use crate::text::written::Text;
 use memberlist_view::{Entry, Event, MemberName, State};
 use std::alloc::{AllocError, Global};
+use std::fmt::{self, Display, Formatter, Write};
 use swim_claim::{Details, Kind};
 
 /// What stands for an address, an incarnation or an accuser that was not heard.
@@ -55,9 +57,7 @@ pub(crate) fn event_words(event: Event) -> &'static str {
 
 /// An escaped name.
 pub(crate) fn name_text(alloc: Global, name: &MemberName) -> Result<String, AllocError> {
-    let mut text = String::new(alloc);
-    write_name(&mut text, name.name().bytes())?;
-    Ok(text)
+    escaped_name(alloc, name.name().bytes())
 }
 
 /// The most bytes of a list of names before it is cut.
@@ -66,19 +66,18 @@ const MAX_LIST_LEN: usize = 60;
 /// Escaped names, separated by commas. A long list is cut, and ends with how many more there are:
 /// `web-1,web-2,+12`.
 pub(crate) fn names_text(alloc: Global, names: &[MemberName]) -> Result<String, AllocError> {
-    let mut text = String::new(alloc);
+    let mut text = Text::new(alloc);
     let mut between = "";
     for (index, name) in names.iter().enumerate() {
-        text.push_str(between)?;
+        text.push_str(between);
         if MAX_LIST_LEN < text.len() {
-            let more = names.len().saturating_sub(index);
-            write!(text, "+{more}")?;
-            return Ok(text);
+            write!(text, "+{}", names.len().saturating_sub(index));
+            break;
         }
-        write_name(&mut text, name.name().bytes())?;
+        write_name(&mut text, name.name().bytes());
         between = ",";
     }
-    Ok(text)
+    text.end()
 }
 
 /// The address and port in readable form: `10.20.1.11:7946`, `[fe80::1]:7946`.
@@ -91,27 +90,27 @@ pub(crate) fn address_text(alloc: Global, details: &Details) -> Result<String, A
 
 /// The moment in the format of RFC 3339.
 pub(crate) fn moment_text(alloc: Global, micros: u64) -> Result<String, AllocError> {
-    let mut text = String::new(alloc);
-    write_moment(&mut text, micros)?;
-    Ok(text)
+    let mut text = Text::new(alloc);
+    write_moment(&mut text, micros);
+    text.end()
 }
 
 /// The metadata: tags, or bytes in hexadecimal.
 pub(crate) fn meta_text(alloc: Global, meta: &[u8]) -> Result<String, AllocError> {
-    let mut text = String::new(alloc);
-    write_meta(&mut text, meta)?;
-    Ok(text)
+    let mut text = Text::new(alloc);
+    write_meta(&mut text, meta);
+    text.end()
 }
 
 /// The incarnation of what is shown, or `-` if no claim was heard.
 pub(crate) fn inc_text(alloc: Global, entry: &Entry) -> Result<String, AllocError> {
-    let mut text = String::new(alloc);
-    write_inc(&mut text, entry)?;
-    Ok(text)
+    let mut text = Text::new(alloc);
+    write_inc(&mut text, entry);
+    text.end()
 }
 
 /// Adds the incarnation of what is shown, or `-` if no claim was heard.
-pub(crate) fn write_inc(text: &mut String, entry: &Entry) -> Result<(), AllocError> {
+pub(crate) fn write_inc(text: &mut Text, entry: &Entry) {
     match entry.state {
         State::Seen => text.push_str(NONE),
         _ => write!(text, "{}", entry.inc),
@@ -158,36 +157,37 @@ pub(crate) fn by_text(
 }
 
 /// Adds an address and, if there is some, metadata: ` at 10.20.1.11:7946 role=web`.
-pub(crate) fn write_place_and_meta(text: &mut String, details: &Details) -> Result<(), AllocError> {
-    let alloc = *text.allocator();
-    let address = address_text(alloc, details)?;
-    let meta = meta_text(alloc, details.meta())?;
-    write!(text, " at {address}")?;
-    if meta.is_empty() {
-        return Ok(());
+pub(crate) fn write_place_and_meta(text: &mut Text, details: &Details) {
+    text.push_str(" at ");
+    text.add(address_text(text.alloc(), details));
+    match text.made(meta_text(text.alloc(), details.meta())) {
+        Some(meta) if !meta.is_empty() => write!(text, " {meta}"),
+        _ => {}
     }
-    write!(text, " {meta}")
 }
 
 /// Adds both addresses of the newest conflict: ` at 10.20.1.9:7946, and is at 10.20.1.15:7946`.
-pub(crate) fn write_rival(text: &mut String, entry: &Entry) -> Result<(), AllocError> {
-    let alloc = *text.allocator();
-    let Some(rival) = entry.rivals.details().last() else {
-        return Ok(());
-    };
-    let rival = address_text(alloc, rival)?;
-    let address = place_text(alloc, entry)?;
-    write!(text, " at {rival}, and is at {address}")
+pub(crate) fn write_rival(text: &mut Text, entry: &Entry) {
+    if let Some(rival) = entry.rivals.details().last() {
+        text.push_str(" at ");
+        text.add(address_text(text.alloc(), rival));
+        text.push_str(", and is at ");
+        text.add(place_text(text.alloc(), entry));
+    }
 }
 
-/// Microseconds in milliseconds: to a tenth below 99.5, and rounded above.
-pub(crate) fn millis_text(alloc: Global, micros: u64) -> Result<String, AllocError> {
-    if micros < 99_500 {
-        let tenths = (micros + 50) / 100;
-        format!(in alloc; "{}.{}", tenths / 10, tenths % 10)
-    } else {
-        let millis = micros.saturating_add(500) / 1000;
-        format!(in alloc; "{millis}")
+/// Microseconds, shown in milliseconds: to a tenth below 99.5, and rounded above.
+#[derive(Clone, Copy)]
+pub(crate) struct Millis(pub(crate) u64);
+
+impl Display for Millis {
+    fn fmt<W: Write>(&self, f: &mut Formatter<W>) -> fmt::Result {
+        if self.0 < 99_500 {
+            let tenths = (self.0 + 50) / 100;
+            write!(f, "{}.{}", tenths / 10, tenths % 10)
+        } else {
+            write!(f, "{}", self.0.saturating_add(500) / 1000)
+        }
     }
 }
 

@@ -1,7 +1,8 @@
 //! What several say about members, and whether they agree.
 
-use crate::text::columns::{Rows, row_of_words};
+use crate::text::columns::Rows;
 use crate::text::texts::name_text;
+use crate::text::written::Text;
 use crate::view::directory::copy_of;
 use crate::view::known::Known;
 use crate::view::roster::Roster;
@@ -35,6 +36,12 @@ impl<'a> Opinion<'a> {
                 .count(),
             is_agreed: agreeing == answers.len(),
         }
+    }
+
+    /// How many of this many members report it: `3 of 5`.
+    fn share_text(&self, alloc: Global, members: usize) -> Result<String, AllocError> {
+        let count = if self.is_agreed { members } else { self.count };
+        format!(in alloc; "{count} of {members}")
     }
 
     /// This or another one about the name, whichever more members report.
@@ -121,72 +128,54 @@ fn does_know_more(one: &Roster, other: &Roster) -> bool {
 }
 
 /// Adds a row for each name, and below it what each view shows about those on which they differ.
-pub(crate) fn write_views(
-    text: &mut String,
-    answers: &[Voice],
-    opinions: &Opinions,
-) -> Result<(), AllocError> {
-    write_opinions(text, opinions, Some(answers.len()))?;
+pub(crate) fn write_views(text: &mut Text, answers: &[Voice], opinions: &Opinions) {
+    write_opinions(text, opinions, Some(answers.len()));
     if differing(opinions) > 0 {
-        write_others(text, answers, opinions)?;
+        write_others(text, answers, opinions);
     }
-    Ok(())
 }
 
 /// Adds the table of what most members report, with how many of this many do, if it is shown.
-pub(crate) fn write_opinions(
-    text: &mut String,
-    opinions: &Opinions,
-    members: Option<usize>,
-) -> Result<(), AllocError> {
-    let alloc = *text.allocator();
+pub(crate) fn write_opinions(text: &mut Text, opinions: &Opinions, members: Option<usize>) {
+    let alloc = text.alloc();
     let has_tags = opinions.iter().any(|(_, opinion)| !opinion.known.is_bare());
     let agree = if members.is_some() { "AGREE" } else { "" };
     let tags = if has_tags { "TAGS" } else { "" };
-    let mut rows = Rows::new(alloc);
-    rows.push(row_of_words(alloc, &["NAME", "ADDRESS", "STATE", "INC", agree, tags])?)?;
+    let heads = ["NAME", "ADDRESS", "STATE", "INC", agree, tags];
+    let mut rows = Rows::below(alloc, &heads);
     for (name, opinion) in opinions.iter() {
         let known = opinion.known;
-        let mut row = Vec::new(alloc);
-        row.push(name_text(alloc, name)?)?;
-        row.push(known.place_text(alloc)?)?;
-        row.push(String::from_str(alloc, known.state())?)?;
-        row.push(known.inc_text(alloc)?)?;
-        row.push(match members {
-            Some(members) if opinion.is_agreed => format!(in alloc; "{members} of {members}")?,
-            Some(members) => format!(in alloc; "{} of {members}", opinion.count)?,
-            None => String::new(alloc),
-        })?;
-        row.push(known.tags(alloc)?)?;
-        rows.push(row)?;
+        rows.cell(name_text(alloc, name));
+        rows.cell(known.place_text(alloc));
+        rows.word(known.state());
+        rows.cell(known.inc_text(alloc));
+        match members {
+            Some(members) => rows.cell(opinion.share_text(alloc, members)),
+            None => rows.word(""),
+        }
+        rows.cell(known.tags(alloc));
+        rows.end_row();
     }
-    rows.write(text)
+    rows.write(text);
 }
 
 /// Adds what each member reports about the names on which not all agree.
-pub(crate) fn write_others(
-    text: &mut String,
-    answers: &[Voice],
-    opinions: &Opinions,
-) -> Result<(), AllocError> {
-    let alloc = *text.allocator();
+pub(crate) fn write_others(text: &mut Text, answers: &[Voice], opinions: &Opinions) {
+    let alloc = text.alloc();
     let has_vsn = opinions
         .iter()
         .any(|(name, _)| differ_in_versions(answers, name));
     let vsn = if has_vsn { "VERSIONS" } else { "" };
-    let mut rows = Rows::new(alloc);
-    rows.push(row_of_words(
-        alloc,
-        &["NAME", "MEMBER", "STATE", "INC", "ADDRESS", vsn, "TAGS"],
-    )?)?;
+    let heads = ["NAME", "MEMBER", "STATE", "INC", "ADDRESS", vsn, "TAGS"];
+    let mut rows = Rows::below(alloc, &heads);
     for (name, opinion) in opinions.iter() {
         if !opinion.is_agreed {
             for answer in answers {
-                rows.push(row_of(alloc, name, answer, has_vsn)?)?;
+                add_row(&mut rows, name, answer, has_vsn);
             }
         }
     }
-    rows.write(text)
+    rows.write(text);
 }
 
 /// Whether two members report different versions for a name.
@@ -202,24 +191,20 @@ fn differ_in_versions(answers: &[Voice], name: &MemberName) -> bool {
 }
 
 /// What a member reports about a name, and about its versions if these are shown.
-fn row_of(
-    alloc: Global,
-    name: &MemberName,
-    answer: &Voice,
-    has_vsn: bool,
-) -> Result<Vec<String>, AllocError> {
-    let mut row = Vec::new(alloc);
-    row.push(name_text(alloc, name)?)?;
-    row.push(String::from_str(alloc, answer.name)?)?;
-    let Some(known) = answer.roster.get(name) else {
-        row.push(String::from_str(alloc, "absent")?)?;
-        return Ok(row);
-    };
-    row.push(String::from_str(alloc, known.state())?)?;
-    row.push(known.inc_text(alloc)?)?;
-    row.push(known.place_text(alloc)?)?;
-    let vsn: &[u8] = if has_vsn { known.vsn() } else { &[] };
-    row.push(hex::encode(alloc, vsn)?)?;
-    row.push(known.tags(alloc)?)?;
-    Ok(row)
+fn add_row(rows: &mut Rows, name: &MemberName, answer: &Voice, has_vsn: bool) {
+    let alloc = rows.alloc();
+    rows.cell(name_text(alloc, name));
+    rows.word(answer.name);
+    match answer.roster.get(name) {
+        Some(known) => {
+            rows.word(known.state());
+            rows.cell(known.inc_text(alloc));
+            rows.cell(known.place_text(alloc));
+            let vsn: &[u8] = if has_vsn { known.vsn() } else { &[] };
+            rows.cell(hex::encode(alloc, vsn));
+            rows.cell(known.tags(alloc));
+        }
+        None => rows.word("absent"),
+    }
+    rows.end_row();
 }

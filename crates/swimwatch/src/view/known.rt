@@ -192,14 +192,14 @@ impl Known {
     }
 
     /// Adds it to an object of JSON.
-    pub(crate) fn write(&self, object: &mut Object) -> Result<(), AllocError> {
-        object.word("state", self.state())?;
+    pub(crate) fn write(&self, object: &mut Object) {
+        object.word("state", self.state());
         if !self.unheard.state {
-            object.number("incarnation", u64::from(self.inc))?;
+            object.number("incarnation", u64::from(self.inc));
         }
         match &self.details {
             Some(details) => object.details(details),
-            None => Ok(()),
+            None => {}
         }
     }
 }

@@ -6,6 +6,7 @@ ghost use Rattle.memberlist_view.specs.Told.{event_of, view_after};
 
 use crate::heard::sent::Sent;
 use crate::text::texts::name_text;
+use crate::text::written::Text;
 use crate::view::directory::{Directory, place_in, place_of};
 use memberlist_view::{Changed, Entry, Event, Heard, MemberName, View};
 use std::alloc::{AllocError, Global};
@@ -111,16 +112,16 @@ impl Listener {
 }
 
 /// Ends a line with the two endpoints: ` (web-2 to web-3, udp)`, and the view if there are several.
-pub(crate) fn write_ends(
-    text: &mut String,
-    listener: &Listener,
-    sent: &Sent,
-) -> Result<(), AllocError> {
-    let source = listener.end_text(sent.source)?;
-    let destination = listener.end_text(sent.destination)?;
-    let proto = sent.proto.name();
-    match &listener.name {
-        Some(name) => write!(text, " ({source} to {destination}, {proto}, {name})\n"),
-        None => write!(text, " ({source} to {destination}, {proto})\n"),
+pub(crate) fn write_ends(text: &mut Text, listener: &Listener, sent: &Sent) {
+    text.push_str(" (");
+    text.add(listener.end_text(sent.source));
+    text.push_str(" to ");
+    text.add(listener.end_text(sent.destination));
+    text.push_str(", ");
+    text.push_str(sent.proto.name());
+    if let Some(name) = &listener.name {
+        text.push_str(", ");
+        text.push_str(name);
     }
+    text.push_str(")\n");
 }

@@ -10,6 +10,7 @@ ghost use Rattle.swimwatch.specs.Views.{is_warning, MaySee, HearsMessage, HearsM
 use super::Watch;
 use crate::heard::counts::count;
 use crate::heard::messages::Messages;
+use crate::heard::noted::What;
 use crate::heard::pings::{place_at, sender_of};
 use crate::heard::sent::Sent;
 use crate::heard::told::Told;
@@ -39,11 +40,11 @@ impl<'a> Watch<'a> {
         }
         let pinged = Pinged::among(self.alloc, &read)?;
         for message in &read {
-            self.detect(sent, &pinged, message)?;
             self.said(sent, Kind::of_message(message))?;
             self.message(sent, &pinged, message)?;
         }
-        Ok(())
+        drop(pinged);
+        self.notes.add(&sent, What::Messages(read))
     }
 
     /// Hears a message of a datagram with these pings.
@@ -161,7 +162,15 @@ impl<'a> Watch<'a> {
             time: sent.time,
             said: Said::Seen { name, place },
         };
-        let Some(event) = self.take_in(&heard)? else {
+        self.hear_seen(&sent, &heard)
+    }
+
+    /// Hears that a packet shows a member, and shows what that changed.
+    fn hear_seen(&mut self, sent: &Sent, heard: &Heard) -> Result<(), AllocError>
+        ensures { OnOk result (self.new.listener.view
+            ≡ view_after self.old.listener.view heard.now) }
+    {
+        let Some(event) = self.take_in(heard)? else {
             return Ok(());
         };
         let change = Change {
@@ -169,6 +178,6 @@ impl<'a> Watch<'a> {
             from: &[],
             event,
         };
-        self.show_change(&sent, &change)
+        self.show_change(sent, &change)
     }
 }

@@ -10,6 +10,7 @@ use crate::heard::sent::Sent;
 use crate::heard::serf::intention::{Intention, Turn};
 use crate::shown::serf_lines::write_intention;
 use crate::shown::serf_objects::write_intention_object;
+use crate::text::written::Text;
 use memberlist_view::State as MemberState;
 use serf_message::{State, StatusTime};
 use serf_view::{Standing, left_time};
@@ -158,16 +159,16 @@ impl<'a> Watch<'a> {
         if !self.verb.tells_news() || !is_shown || self.events {
             return Ok(());
         }
-        let mut line = String::new(self.alloc);
+        let mut line = Text::new(self.alloc);
         let is_origin = self.serf.is_origin(&sent);
         if self.json {
-            write_intention_object(&mut line, &self.listener, &sent, intention, is_origin)?;
+            write_intention_object(&mut line, &self.listener, &sent, intention, is_origin);
         } else {
-            write_intention(&mut line, &self.listener, &sent, intention, is_origin)?;
+            write_intention(&mut line, &self.listener, &sent, intention, is_origin);
         }
         let words = intention.turn.words();
         let key = self.intention_key(words, intention.name, intention.time)?;
-        self.tell(key, line)
+        self.tell(key, line.end()?)
     }
 
     /// What makes news of an intent another one than others.

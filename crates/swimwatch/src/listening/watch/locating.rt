@@ -55,17 +55,17 @@ impl<'a> Watch<'a> {
     }
 
     /// Shows the round trips between members.
-    pub(super) fn show_distances(&mut self) -> Result<(), AllocError>
+    pub(super) fn show_distances(&mut self)
         ensures { self.new.listener ≡ self.old.listener }
     {
         let Some(distances) = &self.distances else {
-            return Ok(());
+            return;
         };
         self.counts.apart = distances.left_out(&self.target);
         if self.json {
-            distances.write_objects(&mut self.out, &self.target)
+            distances.write_objects(&mut self.out, &self.target);
         } else {
-            distances.write(&mut self.out, &self.target)
+            distances.write(&mut self.out, &self.target);
         }
     }
 }

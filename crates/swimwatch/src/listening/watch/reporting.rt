@@ -4,13 +4,14 @@ ghost use Rattle.std.specs.Prelude.{◌≡◌};
 
 use super::Watch;
 use crate::heard::sent::Sent;
+use crate::listening::detecting::Detected;
 use crate::shown::deadline::Deadline;
 use crate::shown::members::write_member_objects;
 use crate::shown::report::Report;
-use crate::text::json::Object;
+use crate::text::json::{List, Object};
 use crate::text::texts::moment_text;
+use crate::text::written::Text;
 use crate::view::change::Change;
-use serde_json::Value;
 use std::alloc::AllocError;
 
 impl<'a> Watch<'a> {
@@ -30,31 +31,36 @@ impl<'a> Watch<'a> {
         ensures listener { self.new.listener ≡ self.old.listener }
         ensures serf { self.new.serf ≡ self.old.serf }
     {
-        self.gathered.timeline.push_str(line)
+        self.gathered.timeline.push_str(line);
+        Ok(())
     }
 
     /// Writes the report. It has all members, also those whose state began before `--from`.
-    pub(super) fn write_report(&mut self, deadline: Deadline) -> Result<(), AllocError>
+    pub(super) fn write_report(
+        &mut self,
+        deadline: Deadline,
+        detected: &Detected,
+    ) -> Result<(), AllocError>
         ensures { self.new.listener ≡ self.old.listener }
     {
-        self.take_probes(true)?;
-        let mut picture = String::new(self.alloc);
+        let mut picture = Text::new(self.alloc);
         self.chart.write(&mut picture)?;
-        let mut members = String::new(self.alloc);
+        let mut members = Text::new(self.alloc);
         let deadline = Deadline {
             from: None,
             ..deadline
         };
-        write_member_objects(&mut members, self.cluster(deadline))?;
+        write_member_objects(&mut members, self.cluster(deadline));
         let report = Report {
             about: self.about()?,
-            picture,
-            members,
-            probes: self.pair_objects()?,
-            episodes: &self.gathered.episodes,
-            timeline: &self.gathered.timeline,
+            picture: picture.end()?,
+            members: members.end()?,
+            probes: &detected.probes,
+            episodes: &detected.episodes,
+            timeline: self.gathered.timeline.as_str()?,
         };
-        report.write(&mut self.out)
+        report.write(&mut self.out);
+        Ok(())
     }
 
     /// The object about the captures: their files, the first and the last moment that is shown, and
@@ -62,18 +68,18 @@ impl<'a> Watch<'a> {
     fn about(&self) -> Result<String, AllocError> {
         let alloc = self.alloc;
         let mut object = Object::new(alloc);
-        let mut captures = Vec::new(alloc);
+        let mut captures = List::new(alloc);
         for word in &self.gathered.captures {
-            captures.push(Value::String(word.clone()?))?;
+            captures.word(word);
         }
-        object.list("captures", captures)?;
+        object.list("captures", captures);
         if let Some(span) = self.chart.span() {
-            object.text("first", moment_text(alloc, span.first)?)?;
-            object.text("last", moment_text(alloc, span.last)?)?;
+            object.text("first", moment_text(alloc, span.first));
+            object.text("last", moment_text(alloc, span.last));
         }
-        object.text("read", self.counts.text(alloc, !self.keys.is_empty())?)?;
-        let mut text = String::new(alloc);
-        object.write(&mut text)?;
-        Ok(text)
+        object.text("read", self.counts.text(alloc, !self.keys.is_empty()));
+        let mut text = Text::new(alloc);
+        object.write(&mut text);
+        text.end()
     }
 }

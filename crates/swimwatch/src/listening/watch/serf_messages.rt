@@ -3,12 +3,13 @@
 ghost use Rattle.std.specs.Prelude.{◌≡◌};
 ghost use Rattle.swimwatch.specs.Serf.{IsNoMessage, IsNoState};
 
-use super::{News, Watch};
+use super::Watch;
 use crate::heard::sent::Sent;
 use crate::heard::serf::queries::{Id, Sighting};
 use crate::heard::serf_state::MAX_STATE_LEN;
 use crate::shown::serf_lines::{write_query, write_user_event};
 use crate::shown::serf_objects::{write_query_object, write_user_event_object};
+use crate::text::written::Text;
 use serf_message::{
     EventGroup, GroupedEvent, Message, Query, QueryResponse, Relay, SerfFault, State, UserEvent,
     decode_message, decode_state,
@@ -148,14 +149,14 @@ impl<'a> Watch<'a> {
             self.came.insert(key, 1)?;
             return Ok(());
         }
-        let mut line = String::new(self.alloc);
+        let mut line = Text::new(self.alloc);
         let is_origin = self.serf.is_origin(&sent);
         if self.json {
-            write_user_event_object(&mut line, &self.listener, &sent, event, is_origin)?;
+            write_user_event_object(&mut line, &self.listener, &sent, event, is_origin);
         } else {
-            write_user_event(&mut line, &self.listener, &sent, event, is_origin)?;
+            write_user_event(&mut line, &self.listener, &sent, event, is_origin);
         }
-        self.tell(key, line)
+        self.tell(key, line.end()?)
     }
 
     /// Hears a query, which shows when it is first seen.
@@ -181,13 +182,13 @@ impl<'a> Watch<'a> {
             time: sent.time,
             until: sent.time.saturating_add(micros),
         })?;
-        let mut line = String::new(self.alloc);
+        let mut line = Text::new(self.alloc);
         if self.json {
-            write_query_object(&mut line, &self.listener, &sent, query)?;
+            write_query_object(&mut line, &self.listener, &sent, query);
         } else {
-            write_query(&mut line, &self.listener, &sent, query)?;
+            write_query(&mut line, &self.listener, &sent, query);
         }
-        self.tell(key, line)
+        self.tell(key, line.end()?)
     }
 
     /// Hears an answer to a query, or a receipt.
@@ -211,11 +212,12 @@ impl<'a> Watch<'a> {
 
     /// What makes an event of a user another one than others.
     fn event_key(&self, event: &UserEvent) -> Result<String, AllocError> {
-        let mut key = format!(in self.alloc; "event {} ", event.time)?;
-        key.push_str(&hex::encode(self.alloc, &event.name)?)?;
-        key.push(' ')?;
-        key.push_str(&hex::encode(self.alloc, &event.payload)?)?;
-        Ok(key)
+        let mut key = Text::new(self.alloc);
+        write!(key, "event {} ", event.time);
+        key.add(hex::encode(self.alloc, &event.name));
+        key.push(' ');
+        key.add(hex::encode(self.alloc, &event.payload));
+        key.end()
     }
 }
 

@@ -7,6 +7,7 @@ use super::{News, Occurrence, Watch};
 use crate::arguments::chosen::Verb;
 use crate::heard::sent::Sent;
 use crate::heard::told::Told;
+use crate::listening::detecting::Detected;
 use crate::shown::claims::write_claim;
 use crate::shown::deadline::Deadline;
 use crate::shown::members::{Cluster, write_member_objects, write_members};
@@ -14,6 +15,7 @@ use crate::shown::objects::{write_change, write_told, write_warned};
 use crate::shown::timeline::{write_event, write_warning};
 use crate::text::names::write_name;
 use crate::text::texts::event_words;
+use crate::text::written::Text;
 use crate::view::change::Change;
 use crate::view::roster::Roster;
 use memberlist_view::{Event, MemberName};
@@ -34,11 +36,12 @@ impl<'a> Watch<'a> {
     {
         self.spread_news(sent, told)?;
         let name = member.name().bytes();
-        self.detect_claim(sent, told)?;
-        self.detect_event(sent, told, event)?;
+        self.note_claim(sent, told)?;
+        self.note_event(sent, told, event)?;
         match (self.verb, event) {
             (Verb::Claims, _) if self.is_shown(name) && self.is_timely(sent.time) => {
-                self.show_claim(sent, told)
+                self.show_claim(sent, told);
+                Ok(())
             }
             (Verb::Dump, _) if self.is_shown(name) => self.take_claim(told),
             (_, Some(event)) => {
@@ -57,14 +60,14 @@ impl<'a> Watch<'a> {
     }
 
     /// Shows a claim.
-    fn show_claim(&mut self, sent: &Sent, told: &Told) -> Result<(), AllocError>
+    fn show_claim(&mut self, sent: &Sent, told: &Told)
         ensures { self.new.listener ≡ self.old.listener }
     {
         if self.json {
-            write_told(&mut self.out, &self.listener, sent, told)
+            write_told(&mut self.out, &self.listener, sent, told);
         } else {
-            self.clock.write(&mut self.out, sent.time)?;
-            write_claim(&mut self.out, &self.listener, sent, told)
+            self.clock.write(&mut self.out, sent.time);
+            write_claim(&mut self.out, &self.listener, sent, told);
         }
     }
 
@@ -103,12 +106,12 @@ impl<'a> Watch<'a> {
             return Ok(());
         };
         let inc = entry.inc;
-        let mut line = String::new(self.alloc);
+        let mut line = Text::new(self.alloc);
         if self.json {
-            write_change(&mut line, listener, sent, change, entry)?;
+            write_change(&mut line, listener, sent, change, entry);
         } else {
-            self.clock.write(&mut line, sent.time)?;
-            write_event(&mut line, listener, sent, change, entry)?;
+            self.clock.write(&mut line, sent.time);
+            write_event(&mut line, listener, sent, change, entry);
         }
         let parts = EventParts {
             words: event_words(change.event),
@@ -117,7 +120,7 @@ impl<'a> Watch<'a> {
             from: change.from,
         };
         let key = self.key_of(parts)?;
-        self.tell_if_new(key, line)
+        self.tell_if_new(key, line.end()?)
     }
 
     /// Notes a name that is claimed at two ports of one address: then two clusters are mixed.
@@ -148,14 +151,17 @@ impl<'a> Watch<'a> {
             return Ok(());
         }
         match (self.verb, self.json) {
-            (Verb::Claims, _) => { self.show_claim(&sent, &Told::of_packet(packet)) }
+            (Verb::Claims, _) => {
+                self.show_claim(&sent, &Told::of_packet(packet));
+                Ok(())
+            }
             (Verb::Timeline | Verb::Report, is_json) if is_first && self.is_timely(sent.time) => {
-                let mut line = String::new(self.alloc);
+                let mut line = Text::new(self.alloc);
                 if is_json {
-                    write_warned(&mut line, &self.listener, &sent, packet)?;
+                    write_warned(&mut line, &self.listener, &sent, packet);
                 } else {
-                    self.clock.write(&mut line, sent.time)?;
-                    write_warning(&mut line, &self.listener, &sent, packet)?;
+                    self.clock.write(&mut line, sent.time);
+                    write_warning(&mut line, &self.listener, &sent, packet);
                 }
                 let key = self.key_of(EventParts {
                     words: "warned",
@@ -163,7 +169,7 @@ impl<'a> Watch<'a> {
                     inc: packet.claim().inc(),
                     from: packet.from_name(),
                 })?;
-                self.tell_if_new(key, line)
+                self.tell_if_new(key, line.end()?)
             }
             _ => Ok(()),
         }
@@ -174,11 +180,12 @@ impl<'a> Watch<'a> {
         if self.listener.name.is_none() {
             return Ok(None);
         }
-        let mut key = format!(in self.alloc; "{} {} ", parts.words, parts.inc)?;
-        write_name(&mut key, parts.name)?;
-        key.push(' ')?;
-        write_name(&mut key, parts.from)?;
-        Ok(Some(key))
+        let mut key = Text::new(self.alloc);
+        write!(key, "{} {} ", parts.words, parts.inc);
+        write_name(&mut key, parts.name);
+        key.push(' ');
+        write_name(&mut key, parts.from);
+        Ok(Some(key.end()?))
     }
 
     /// Notes an event to print, or to report.
@@ -246,7 +253,7 @@ impl<'a> Watch<'a> {
     }
 
     /// Shows what is shown only at the end.
-    pub(crate) fn finish(&mut self) -> Result<(), AllocError>
+    pub(crate) fn finish(&mut self, detected: &Detected) -> Result<(), AllocError>
         ensures { self.new.listener ≡ self.old.listener }
     {
         let deadline = Deadline {
@@ -254,32 +261,40 @@ impl<'a> Watch<'a> {
             from: self.window.from,
             mult: self.mult,
         };
-        match (self.verb, self.json) {
-            (Verb::Members, _) => self.show_members(deadline),
-            (Verb::Talkers, false) => self.talkers.write(&mut self.out, &self.listener),
-            (Verb::Talkers, true) => self.talkers.write_objects(&mut self.out, &self.listener),
-            (Verb::Chart, _) => self.chart.write(&mut self.out),
-            (Verb::Probes, _) => self.show_probes(),
-            (Verb::Health, _) => self.show_health(),
-            (Verb::Why, _) => self.show_causes(),
-            (Verb::Spread, _) => self.show_spread(),
-            (Verb::Distances, _) => self.show_distances(),
-            (Verb::Report, _) => self.write_report(deadline),
-            _ => Ok(()),
+        match self.verb {
+            Verb::Members => self.show_members(deadline),
+            Verb::Talkers => self.show_talkers(),
+            Verb::Chart => self.chart.write(&mut self.out)?,
+            Verb::Spread => self.show_spread()?,
+            Verb::Distances => self.show_distances(),
+            Verb::Report => self.write_report(deadline, detected)?,
+            _ => {}
+        }
+        Ok(())
+    }
+
+    /// Shows what each sender sent.
+    fn show_talkers(&mut self)
+        ensures { self.new.listener ≡ self.old.listener }
+    {
+        if self.json {
+            self.talkers.write_objects(&mut self.out, &self.listener);
+        } else {
+            self.talkers.write(&mut self.out, &self.listener);
         }
     }
 
     /// Shows the members.
-    fn show_members(&mut self, deadline: Deadline) -> Result<(), AllocError>
+    fn show_members(&mut self, deadline: Deadline)
         ensures { self.new.listener ≡ self.old.listener }
     {
-        let mut text = String::new(self.alloc);
+        let mut text = Text::new(self.alloc);
         if self.json {
-            write_member_objects(&mut text, self.cluster(deadline))?;
+            write_member_objects(&mut text, self.cluster(deadline));
         } else {
-            write_members(&mut text, self.cluster(deadline))?;
+            write_members(&mut text, self.cluster(deadline));
         }
-        self.out.push_str(&text)
+        self.out.push_text(&text);
     }
 
     /// What is shown of members.

@@ -24,7 +24,7 @@ impl<'a> Watch<'a> {
         ensures { self.new.listener ≡ self.old.listener }
     {
         match &mut self.spread {
-            Some(spread) => spread.packet(self.capture, sent),
+            Some(spread) => spread.packet(self.notes.capture, sent),
             None => Ok(()),
         }
     }
@@ -44,7 +44,7 @@ impl<'a> Watch<'a> {
         ensures { self.new.listener ≡ self.old.listener }
     {
         match &mut self.spread {
-            Some(spread) => spread.news(&self.listener, self.capture, sent, told),
+            Some(spread) => spread.news(&self.listener, self.notes.capture, sent, told),
             None => Ok(()),
         }
     }

@@ -8,6 +8,7 @@ ghost use Rattle.swimwatch.specs.Views.{HearsRecords, HearsStream};
 use super::Watch;
 use crate::heard::carriage::{NoStream, Opening, stream_records};
 use crate::heard::counts::count;
+use crate::heard::noted::What;
 use crate::heard::records::Records;
 use crate::heard::sent::Sent;
 use crate::heard::told::Told;
@@ -55,7 +56,7 @@ impl<'a> Watch<'a> {
                 return Ok(());
             }
             Some(NoStream::Claimless) => {
-                self.detect_stream(&sent)?;
+                self.notes.add(&sent, What::Stream)?;
                 count(&mut self.counts.other_streams);
                 Kind::Message
             }
@@ -130,7 +131,7 @@ impl<'a> Watch<'a> {
             self.old.listener.view self.new.listener.view) }
     {
         count(&mut self.counts.streams);
-        self.detect_push_pull(&sent)?;
+        self.notes.add(&sent, What::PushPull)?;
         self.said(sent, Kind::Stream)?;
         let join = Join {
             join: records.join,

@@ -2,11 +2,12 @@
 
 use super::{Part, Piece, Spread};
 use crate::shown::probes::{is_or_none, time_text};
-use crate::text::columns::{Rows, row_of_words};
+use crate::text::columns::Rows;
 use crate::text::json::Object;
 use crate::text::names::write_name;
 use crate::text::texts::{NONE, kind_word, moment_text, name_text, names_text};
 use crate::text::window::Window;
+use crate::text::written::Text;
 use crate::view::directory::copy_of;
 use crate::view::listener::Listener;
 use memberlist_probes::rank_of;
@@ -64,52 +65,57 @@ impl Reach {
 
 /// Writes a row for each piece of news that is shown, by when it began. Times are in milliseconds.
 pub(crate) fn write_spread(
-    text: &mut String,
+    text: &mut Text,
     spread: &Spread,
     listener: &Listener,
     shown: Shown,
 ) -> Result<(), AllocError> {
-    let alloc = *text.allocator();
+    let alloc = text.alloc();
     let names = spread.agents.names(listener)?;
-    let mut rows = Rows::new(alloc);
-    rows.push(row_of_words(alloc, &HEADS)?)?;
+    let mut rows = Rows::below(alloc, &HEADS);
     for (number, piece) in spread.pieces.iter().enumerate() {
         if shown.has(piece) {
             let reach = spread.reach(number, piece, &names)?;
-            rows.push(row_of(alloc, piece, &reach)?)?;
+            add_row(&mut rows, piece, &reach)?;
         }
     }
-    rows.write(text)
+    rows.write(text);
+    Ok(())
 }
 
-fn row_of(alloc: Global, piece: &Piece, reach: &Reach) -> Result<Vec<String>, AllocError> {
-    let mut news = String::new(alloc);
-    write_name(&mut news, &piece.name)?;
-    write!(news, " {} {}", kind_word(piece.kind), piece.inc)?;
-    let mut by = String::new(alloc);
-    if piece.by.is_empty() {
-        by.push_str(NONE)?;
-    }
-    write_name(&mut by, &piece.by)?;
+fn add_row(rows: &mut Rows, piece: &Piece, reach: &Reach) -> Result<(), AllocError> {
+    let alloc = rows.alloc();
+    let delays = reach.delays(alloc)?;
     let reached = reach.reached.len();
     let all = reached.saturating_add(reach.not_seen.len());
-    let mut row = Vec::new(alloc);
-    row.push(moment_text(alloc, piece.time)?)?;
-    row.push(news)?;
-    row.push(by)?;
-    row.push(format!(in alloc; "{}", piece.sent)?)?;
-    row.push(format!(in alloc; "{reached} of {all}")?)?;
-    let delays = reach.delays(alloc)?;
-    for percent in [50, 90, 100] {
-        row.push(time_text(alloc, percentile(&delays, percent))?)?;
-    }
-    row.push(reach.slowest(alloc)?)?;
-    row.push(if reach.not_seen.is_empty() {
-        String::from_str(alloc, NONE)?
+    rows.cell(moment_text(alloc, piece.time));
+    rows.cell(news_text(alloc, piece));
+    if piece.by.is_empty() {
+        rows.word(NONE);
     } else {
-        names_text(alloc, &reach.not_seen)?
-    })?;
-    Ok(row)
+        rows.name(&piece.by);
+    }
+    rows.number(piece.sent);
+    rows.cell(format!(in alloc; "{reached} of {all}"));
+    for percent in [50, 90, 100] {
+        rows.cell(time_text(alloc, percentile(&delays, percent)));
+    }
+    rows.cell(reach.slowest(alloc));
+    if reach.not_seen.is_empty() {
+        rows.word(NONE);
+    } else {
+        rows.cell(names_text(alloc, &reach.not_seen));
+    }
+    rows.end_row();
+    Ok(())
+}
+
+/// What a piece of news says: `web-5 suspect 1`.
+fn news_text(alloc: Global, piece: &Piece) -> Result<String, AllocError> {
+    let mut text = Text::new(alloc);
+    write_name(&mut text, &piece.name);
+    write!(text, " {} {}", kind_word(piece.kind), piece.inc);
+    text.end()
 }
 
 /// The least of these times, which ascend, that so many percent of them do not exceed.
@@ -120,7 +126,7 @@ fn percentile(times: &[u64], percent: u8) -> Option<u64> {
 
 /// Writes an object for each piece of news that is shown.
 pub(crate) fn write_spread_objects(
-    text: &mut String,
+    text: &mut Text,
     spread: &Spread,
     listener: &Listener,
     shown: Shown,
@@ -129,29 +135,31 @@ pub(crate) fn write_spread_objects(
     for (number, piece) in spread.pieces.iter().enumerate() {
         if shown.has(piece) {
             let reach = spread.reach(number, piece, &names)?;
-            write_object(text, piece, &reach)?;
+            write_object(text, piece, &reach);
         }
     }
     Ok(())
 }
 
-fn write_object(text: &mut String, piece: &Piece, reach: &Reach) -> Result<(), AllocError> {
-    let alloc = *text.allocator();
+fn write_object(text: &mut Text, piece: &Piece, reach: &Reach) {
+    let alloc = text.alloc();
     let mut reached = Object::new(alloc);
     for (name, delay) in &reach.reached {
-        reached.number(&name_text(alloc, name)?, *delay)?;
+        if let Some(name) = reached.made(name_text(alloc, name)) {
+            reached.number(&name, *delay);
+        }
     }
     let mut object = Object::new(alloc);
-    object.text("time", moment_text(alloc, piece.time)?)?;
-    object.escaped("name", &piece.name)?;
-    object.word("event", kind_word(piece.kind))?;
-    object.number("incarnation", u64::from(piece.inc))?;
+    object.text("time", moment_text(alloc, piece.time));
+    object.escaped("name", &piece.name);
+    object.word("event", kind_word(piece.kind));
+    object.number("incarnation", u64::from(piece.inc));
     if !piece.by.is_empty() {
-        object.escaped("by", &piece.by)?;
+        object.escaped("by", &piece.by);
     }
-    object.number("sent", piece.sent)?;
-    object.object("reached_us", Some(reached))?;
-    object.names("not_seen", &reach.not_seen)?;
+    object.number("sent", piece.sent);
+    object.object("reached_us", Some(reached));
+    object.names("not_seen", &reach.not_seen);
     object.write(text)
 }
 

@@ -103,7 +103,7 @@ returns-in-Some-of c segments packets read follows kept =
     let t = tcp_text c.in-Tcp.segment in
     let taken = taken_tcp c.args.filter.ports.now _ t parcel (ap transport_text c.in-Tcp.is) c.in-Some.ensures.some chosen in
     let next = segments ++ captured c.in-Some-of.ends t ∷ [] in
-    let same : c.detect_segment.new.self.listener.view ≡ c.args.watch.now.listener.view = search rules in
+    let same : c.captured_segment.new.self.listener.view ≡ c.args.watch.now.listener.view = search rules in
     on_ok c.segment.result (λ h. (
       next,
       packets ++ p ∷ [],
