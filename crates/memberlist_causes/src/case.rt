@@ -171,9 +171,16 @@ impl Case {
         found
     }
 
-    /// Whether the member is the target, or the prober for itself.
+    /// Whether the target's host refused it.
+    pub(crate) fn is_refused(&self) -> bool {
+        self.only() == Some(Explanation::Refused)
+    }
+
+    /// Whether the member is the target, or the prober for itself. What the target's host refused says
+    /// nothing of the prober.
     pub(crate) fn touches(&self, member: Member) -> bool {
-        self.target == member || self.prober == member && !self.is_relayed
+        let is_of_prober = !self.is_relayed && !self.is_refused();
+        self.target == member || is_of_prober && self.prober == member
     }
 
     /// The one of prober and target that is not this member.

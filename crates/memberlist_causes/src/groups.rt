@@ -4,7 +4,7 @@ use crate::members::{has, order};
 use crate::scene::Scene;
 use crate::trouble::{Of, Trouble};
 use crate::{Case, Cause, Evidence, Member, Tried};
-use memberlist_probes::{Explanation, Outcome};
+use memberlist_probes::Outcome;
 use std::alloc::{AllocError, Global};
 use std::collections::BTreeMap;
 use std::mem;
@@ -247,9 +247,7 @@ fn silent_targets(scene: &Scene, from: u64) -> Result<Vec<Member>, AllocError> {
 /// them: a connection that is dialled before all is over may be answered after it.
 fn are_answered(cases: &[&Case]) -> bool {
     let answered = cases.iter().filter(|case| is_answered(case)).count();
-    let is_refused = cases
-        .iter()
-        .any(|case| case.only() == Some(Explanation::Refused));
+    let is_refused = cases.iter().any(|case| case.is_refused());
     is_refused || cases.len() < answered.saturating_mul(5)
 }
 
