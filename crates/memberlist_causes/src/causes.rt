@@ -1,7 +1,7 @@
 //! Why members were suspected, from what captures tell.
 
 use crate::chapter::Chapter;
-use crate::diagnosis::{diagnose, restart};
+use crate::diagnosis::diagnose;
 use crate::facts::Facts;
 use crate::restarts::Restart;
 use crate::words::{Saying, Word};
@@ -305,7 +305,7 @@ impl Causes {
             let Some(episode) = self.facts.episodes.ended.pop_front() else {
                 break;
             };
-            if is_near(&episode, stretch.begin, until) {
+            if is_near(&episode, stretch.begin, until) && !self.is_later(&episode) {
                 chapter.add(&self.facts, episode)?;
             } else {
                 self.facts.episodes.ended.push_back(episode)?;
@@ -313,6 +313,15 @@ impl Causes {
         }
         self.note_told(&chapter)?;
         Ok(Some(chapter))
+    }
+
+    /// Whether a suspicion belongs to a later stretch: a probe of its member failed before it, of which
+    /// nothing is told yet.
+    fn is_later(&self, episode: &Episode) -> bool {
+        self.facts.cases.iter().any(|case| {
+            let is_untold = self.judged < case.time && case.time <= episode.begin;
+            is_untold && case.target == episode.of && case.is_bad()
+        })
     }
 
     /// Forgets the restarts of which this tells.
@@ -382,10 +391,6 @@ impl Causes {
             suspicions: Vec::new(alloc),
             troubles: Vec::new(alloc),
         };
-        let end = episode.end().unwrap_or(self.facts.now);
-        if let Some(trouble) = restart(&self.facts, episode.of, episode.begin, end)? {
-            chapter.troubles.push(trouble)?;
-        }
         chapter.add(&self.facts, episode)?;
         self.note_told(&chapter)?;
         Ok(Some(chapter))

@@ -1,5 +1,6 @@
 //! What is told at once: suspicions, and the trouble behind them.
 
+use crate::diagnosis::restart;
 use crate::episodes::Accuser;
 use crate::facts::Facts;
 use crate::trouble::Trouble;
@@ -65,7 +66,7 @@ impl Chapter {
             probes: Vec::new(alloc),
             answered: 0,
             answered_to: Vec::new(alloc),
-            cause: self.explaining(&episode),
+            cause: self.cause_of(facts, &episode)?,
             episode,
         };
         for accuser in &suspicion.episode.accusers {
@@ -89,14 +90,31 @@ impl Chapter {
             .map_err(AllocError::from)
     }
 
+    /// The index of the trouble that explains a suspicion, or else of a restart of its member.
+    fn cause_of(&mut self, facts: &Facts, episode: &Episode) -> Result<Option<usize>, AllocError> {
+        if let Some(index) = self.explaining(episode) {
+            return Ok(Some(index));
+        }
+        let end = episode.end().unwrap_or(facts.now);
+        let Some(trouble) = restart(facts, episode.of, episode.begin, end)? else {
+            return Ok(None);
+        };
+        let index = self.troubles.len();
+        self.troubles.push(trouble)?;
+        Ok(Some(index))
+    }
+
     /// The index of the trouble that explains a suspicion: one about the member, or else one with
-    /// probes of it.
+    /// probes of it. What began after the suspicion ended does not explain it.
     fn explaining(&self, episode: &Episode) -> Option<usize> {
+        let of = episode.of;
+        let end = episode.end().unwrap_or(u64::MAX);
         let near = |trouble: &Trouble| {
             let from = trouble.begin.saturating_sub(NEAR);
-            from <= episode.begin && episode.begin <= trouble.until.saturating_add(NEAR)
+            let is_near = from <= episode.begin
+                && episode.begin <= trouble.until.saturating_add(NEAR);
+            is_near && trouble.began_before(end)
         };
-        let of = episode.of;
         let about = self
             .troubles
             .iter()

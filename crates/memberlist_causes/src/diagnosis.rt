@@ -1,7 +1,7 @@
 //! What explains the probes without an answer in one scene: first whether groups of members are in
 //! trouble, then the members that most of the probes touch, one after another.
 
-use crate::evidence::Evidence;
+use crate::evidence::{Evidence, Numbers};
 use crate::facts::Facts;
 use crate::groups::{cut_off_together, partition};
 use crate::members::order;
@@ -44,9 +44,6 @@ pub(crate) fn diagnose(facts: &Facts, begin: u64, last: u64) -> Result<Vec<Troub
         troubles.push(trouble)?;
     } else {
         one_by_one(&scene, &mut troubles)?;
-        for trouble in &mut troubles {
-            look_for_restart(facts, trouble)?;
-        }
     }
     Ok(troubles)
 }
@@ -65,41 +62,37 @@ fn leaving(scene: &Scene) -> Result<Trouble, AllocError> {
 
 /// Tells of the member that most of the failed probes touch, then of the next of those that are left.
 fn one_by_one(scene: &Scene, troubles: &mut Vec<Trouble>) -> Result<(), AllocError> {
-    let mut rest = touching(scene, &scene.bad, None)?;
+    let mut rest = scene.bad.to_vec(scene.facts.alloc)?;
     for _ in 0..MOST {
         let Some(member) = most_touched(scene, &rest)? else {
-            break;
+            return Ok(());
         };
-        let trouble = trouble_of(scene, member, &rest)?;
-        let mut left = Vec::new(scene.facts.alloc);
-        for case in &rest {
-            if !case.touches(member) {
-                left.push(*case)?;
-            }
-        }
-        rest = left;
-        troubles.push(trouble)?;
+        let (mine, others) = parted(scene, &rest, member)?;
+        troubles.push(trouble_of(scene, member, &mine)?)?;
+        rest = others;
     }
     Ok(())
 }
 
-/// Those of the probes that touch the member, or all.
-fn touching<'a>(
+/// Probes that touch a member, and others.
+type Parted<'a> = (Vec<&'a Case>, Vec<&'a Case>);
+
+/// Those of the probes that touch the member, and the others.
+fn parted<'a>(
     scene: &Scene<'a>,
     cases: &[&'a Case],
-    member: Option<Member>,
-) -> Result<Vec<&'a Case>, AllocError> {
-    let mut touching = Vec::new(scene.facts.alloc);
+    member: Member,
+) -> Result<Parted<'a>, AllocError> {
+    let mut mine = Vec::new(scene.facts.alloc);
+    let mut others = Vec::new(scene.facts.alloc);
     for case in cases {
-        let is_it = match member {
-            Some(member) => case.touches(member),
-            None => true,
-        };
-        if is_it {
-            touching.push(*case)?;
+        if case.touches(member) {
+            mine.push(*case)?;
+        } else {
+            others.push(*case)?;
         }
     }
-    Ok(touching)
+    Ok((mine, others))
 }
 
 /// The member that most of the probes touch: of several the one with more others, then the one that
@@ -165,29 +158,27 @@ fn pairs(scene: &Scene, cases: &[&Case]) -> Result<Vec<(Member, Member)>, AllocE
     Ok(pairs)
 }
 
-/// The other ends of the probes that touch the member.
+/// The other ends of probes that touch the member.
 fn others_of(scene: &Scene, cases: &[&Case], member: Member) -> Result<Vec<Member>, AllocError> {
     let mut others = Vec::new(scene.facts.alloc);
     for case in cases {
-        if case.touches(member) {
-            others.push(case.other(member))?;
-        }
+        others.push(case.other(member))?;
     }
     order(&mut others);
     Ok(others)
 }
 
-/// What is told of the member by those of the probes that touch it.
+/// What is told of the member by the probes that touch it.
 fn trouble_of<'a>(
     scene: &Scene<'a>,
     member: Member,
-    cases: &[&'a Case],
+    mine: &[&'a Case],
 ) -> Result<Trouble, AllocError> {
     let alloc = scene.facts.alloc;
-    let mine = touching(scene, cases, Some(member))?;
-    let (first, _) = span_of(&mine);
-    let others = others_of(scene, &mine, member)?;
-    let subject = Subject::of(scene, member, &mine)?;
+    let (first, _) = span_of(mine);
+    let others = others_of(scene, mine, member)?;
+    let subject = Subject::of(scene, member, mine)?;
+    let until = subject.end;
     let mut evidence = Vec::new(alloc);
     let mut cause = told(&subject, &mut evidence)?;
     let mut of = Of::One(member);
@@ -198,9 +189,21 @@ fn trouble_of<'a>(
         order(&mut pair);
         of = Of::Several(pair);
     }
-    let mut trouble = Trouble::new(alloc, (first, scene.end), of, cause, &mine)?;
+    let mut trouble = Trouble::new(alloc, (first, until), of, cause, mine)?;
     trouble.evidence = evidence;
+    look_for_restart(scene.facts, &mut trouble)?;
     Ok(trouble)
+}
+
+/// When the numbers of a member's pings began anew about this time, the last of the old ones before
+/// its end.
+fn restarted(facts: &Facts, member: Member, (begin, end): (u64, u64)) -> Option<Numbers> {
+    let from = begin.saturating_sub(ANEW_BEFORE);
+    let numbers = began_anew(facts, member, from, end.saturating_add(ANEW_AFTER))?;
+    match numbers {
+        Numbers::Anew { before, .. } if before <= end => Some(numbers),
+        _ => None,
+    }
 }
 
 /// If little is known of trouble, and the numbers of a member's pings begin anew, that is told.
@@ -208,15 +211,14 @@ fn look_for_restart(facts: &Facts, trouble: &mut Trouble) -> Result<(), AllocErr
     if !trouble.cause.is_weak() {
         return Ok(());
     }
-    let from = trouble.begin.saturating_sub(ANEW_BEFORE);
-    let to = trouble.until.saturating_add(ANEW_AFTER);
+    let span = (trouble.begin, trouble.until);
     let mut seen = BTreeSet::new(facts.alloc);
     for (prober, target) in &trouble.legs {
         for member in [*prober, *target] {
             if !seen.insert(member)? {
                 continue;
             }
-            if let Some(numbers) = began_anew(facts, member, from, to) {
+            if let Some(numbers) = restarted(facts, member, span) {
                 trouble.cause = Cause::Restarted;
                 trouble.of = Of::One(member);
                 trouble.evidence.push(Evidence::Numbers(numbers))?;
@@ -227,16 +229,14 @@ fn look_for_restart(facts: &Facts, trouble: &mut Trouble) -> Result<(), AllocErr
     Ok(())
 }
 
-/// A restart that alone explains a suspicion for which no failed probe was captured.
+/// A restart that explains a suspicion which nothing else explains.
 pub(crate) fn restart(
     facts: &Facts,
     member: Member,
     begin: u64,
     end: u64,
 ) -> Result<Option<Trouble>, AllocError> {
-    let from = begin.saturating_sub(ANEW_BEFORE);
-    let to = end.saturating_add(ANEW_AFTER);
-    let Some(numbers) = began_anew(facts, member, from, to) else {
+    let Some(numbers) = restarted(facts, member, (begin, end)) else {
         return Ok(None);
     };
     let of = Of::One(member);

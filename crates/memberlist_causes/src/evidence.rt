@@ -148,6 +148,21 @@ pub enum Evidence {
     },
 }
 
+impl Evidence {
+    /// When what it tells of began, if it says so.
+    pub(crate) fn since(&self) -> Option<u64> {
+        match self {
+            Evidence::Refused { first: since, .. }
+            | Evidence::Succeeded { from: since, .. }
+            | Evidence::NotHeard { since }
+            | Evidence::SilentUntil { from: since, .. }
+            | Evidence::SilentFrom { from: since }
+            | Evidence::Numbers(Numbers::Anew { before: since, .. }) => Some(*since),
+            _ => None,
+        }
+    }
+}
+
 /// The place of an explanation in counts.
 pub(crate) fn place_of(explanation: Explanation) -> usize {
     Explanation::ALL

@@ -68,8 +68,7 @@ impl Restarts {
                 break;
             };
             let is_within = from <= restart.after && restart.before <= to;
-            let is_of_it = trouble.of.has(restart.of) || trouble.touches(restart.of);
-            if !is_within || !is_of_it {
+            if !is_within || !trouble.of.has(restart.of) {
                 self.all.push_back(restart)?;
             }
         }

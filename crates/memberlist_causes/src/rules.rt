@@ -227,7 +227,7 @@ fn at_work(subject: &Subject, evidence: &mut Vec<Evidence>) -> Result<Option<Cau
     if is_stopped(subject, &shares) {
         let silence = subject.agent.silence;
         let (from, to) = (silence.from, silence.to);
-        evidence.push(if shares.late > 0 {
+        evidence.push(if shares.late > 0 && to < subject.end {
             Evidence::SilentUntil { from, to }
         } else {
             Evidence::SilentFrom { from }

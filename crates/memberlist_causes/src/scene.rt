@@ -1,7 +1,7 @@
 //! The time in which probes had no answer, without a long pause.
 
 use crate::facts::Facts;
-use crate::{Case, Member};
+use crate::{Case, Episode, Member};
 use std::alloc::AllocError;
 use std::collections::{BTreeMap, BTreeSet};
 
@@ -38,7 +38,7 @@ pub(crate) struct Scene<'a> {
 impl<'a> Scene<'a> {
     /// The scene whose probes without an answer were sent between these times.
     pub(crate) fn of(facts: &'a Facts, begin: u64, last: u64) -> Result<Scene<'a>, AllocError> {
-        let end = end_of(facts, begin, last);
+        let end = end_of(facts, None, (begin, last));
         let mut scene = Scene {
             facts,
             begin,
@@ -96,20 +96,30 @@ impl<'a> Scene<'a> {
     }
 }
 
-/// When all is over that these probes led to.
-fn end_of(facts: &Facts, begin: u64, last: u64) -> u64 {
-    let mut end = last.saturating_add(facts.interval);
-    let earliest = begin.saturating_sub(EARLIER);
-    let latest = last.saturating_add(LATER);
-    for episode in &facts.episodes.ended {
-        if earliest <= episode.begin && episode.begin <= latest {
+/// When all is over that failed probes led to: an interval after the last of them, or when the last
+/// suspicion ended that belongs to them. Of one member only its own suspicions count, and if no probe
+/// failed after the last of them, all was over with it.
+pub(crate) fn end_of(facts: &Facts, of: Option<Member>, (begin, last): (u64, u64)) -> u64 {
+    let mut end = 0;
+    let episodes = &facts.episodes;
+    for episode in episodes.ended.iter().chain(episodes.open().values()) {
+        let is_of_it = match of {
+            Some(member) => member == episode.of,
+            None => true,
+        };
+        if is_of_it && is_near(episode, begin, last) {
             end = end.max(episode.end().unwrap_or(facts.now));
         }
     }
-    for episode in facts.episodes.open().values() {
-        if earliest <= episode.begin && episode.begin <= latest {
-            end = end.max(facts.now);
-        }
+    if of.is_some() && last <= end {
+        end
+    } else {
+        end.max(last.saturating_add(facts.interval))
     }
-    end
+}
+
+/// Whether a suspicion belongs to probes that were sent in this time.
+fn is_near(episode: &Episode, begin: u64, last: u64) -> bool {
+    let earliest = begin.saturating_sub(EARLIER);
+    earliest <= episode.begin && episode.begin <= last.saturating_add(LATER)
 }

@@ -5,27 +5,24 @@ use crate::evidence::{Numbers, place_of};
 use crate::facts::Facts;
 use crate::members::Heir;
 use crate::numbers::{Silence, numbers_of};
-use crate::scene::Scene;
+use crate::scene::{Scene, end_of};
 use crate::words::Saying;
 use crate::{Case, Member, Tried, Word};
 use memberlist_probes::{Delays, Explanation};
-use std::alloc::AllocError;
+use std::alloc::{AllocError, Global};
 
 /// How long after a ping something of the target may have been sent before it (own), in
 /// microseconds.
 const CROSSING: u64 = 20_000;
 
-/// How long before and after what a host did counts (own).
-const AROUND: u64 = 500_000;
+/// How long before the first failed probe what a host did counts (own).
+const BEFORE: u64 = 500_000;
 
-/// How long before and after handshakes count (own).
+/// How long before the first failed probe handshakes count (own).
 const SHAKEN: u64 = 1_000_000;
 
-/// How long before the first failed probe, and after all is over, another member at its address and
-/// port explains it (own).
+/// How long before the first failed probe another member at its address and port explains it (own).
 const HEIR_BEFORE: u64 = 12_000_000;
-
-const HEIR_AFTER: u64 = 8_000_000;
 
 /// The greatest number of a ping of a process that has just begun (own).
 const FIRST: u32 = 8;
@@ -92,50 +89,13 @@ impl<'a> Subject<'a> {
         bad: &[&'a Case],
     ) -> Result<Subject<'a>, AllocError> {
         let facts = scene.facts;
-        let alloc = facts.alloc;
         let (begin, last) = span_of(bad);
-        let mut subject = Subject {
-            facts,
-            member,
-            to: Vec::new(alloc),
-            from: Vec::new(alloc),
-            unseen: Vec::new(alloc),
-            good_to: Vec::new(alloc),
-            good_from: Vec::new(alloc),
-            begin,
-            end: scene.end,
-            host: Host {
-                refusals: 0,
-                first_refusal: 0,
-                accepted: 0,
-                half_open: 0,
-                handshakes: Delays::new(alloc),
-            },
-            agent: Agent {
-                words: 0,
-                meanwhile: 0,
-                acks: 0,
-                silence: Silence { from: 0, to: 0 },
-                around: Silence {
-                    from: 0,
-                    to: facts.now,
-                },
-                is_new: false,
-            },
-            numbers: None,
-            late_from: Delays::new(alloc),
-            late_to: Delays::new(alloc),
-            of_it: [0; 7],
-            of_own: [0; 7],
-        };
+        let end = end_of(facts, Some(member), (begin, last));
+        let mut subject = Subject::new(facts, member, (begin, end));
         for case in bad {
             subject.take_bad(case)?;
         }
-        for case in &scene.good {
-            if begin <= case.time && case.time <= last {
-                subject.take_good(case)?;
-            }
-        }
+        subject.take_answered(scene, last)?;
         let first = subject
             .to
             .iter()
@@ -144,8 +104,41 @@ impl<'a> Subject<'a> {
             .unwrap_or(begin);
         subject.meet_host(first)?;
         subject.hear_agent(first, last);
-        subject.numbers = numbers_of(facts, member, first, scene.end.max(last));
+        subject.numbers = numbers_of(facts, member, first, end);
         Ok(subject)
+    }
+
+    /// The member between these times, with nothing taken in.
+    fn new(facts: &'a Facts, member: Member, (begin, end): (u64, u64)) -> Subject<'a> {
+        let alloc = facts.alloc;
+        Subject {
+            facts,
+            member,
+            to: Vec::new(alloc),
+            from: Vec::new(alloc),
+            unseen: Vec::new(alloc),
+            good_to: Vec::new(alloc),
+            good_from: Vec::new(alloc),
+            begin,
+            end,
+            host: Host::new(alloc),
+            agent: Agent::new(facts.now),
+            numbers: None,
+            late_from: Delays::new(alloc),
+            late_to: Delays::new(alloc),
+            of_it: [0; 7],
+            of_own: [0; 7],
+        }
+    }
+
+    /// Takes in the probes of the scene that were answered in time until this time.
+    fn take_answered(&mut self, scene: &Scene<'a>, last: u64) -> Result<(), AllocError> {
+        for case in &scene.good {
+            if self.begin <= case.time && case.time <= last {
+                self.take_good(case)?;
+            }
+        }
+        Ok(())
     }
 
     /// Takes in a probe that had no answer in time.
@@ -188,19 +181,17 @@ impl<'a> Subject<'a> {
 
     /// Takes in what its host did. `first` is when the first failed probe of it was sent.
     fn meet_host(&mut self, first: u64) -> Result<(), AllocError> {
-        let from = first.saturating_sub(AROUND);
-        let to = self.end.saturating_add(AROUND);
+        let from = first.saturating_sub(BEFORE);
         let shaken = self.begin.saturating_sub(SHAKEN);
-        let until = self.end.saturating_add(SHAKEN);
         for contact in self.facts.contacts.all() {
             let is_at_it = contact.at == self.member;
             if let Some(took) = contact.took {
                 let is_end = is_at_it || contact.by == Some(self.member);
-                if is_end && shaken <= contact.time && contact.time <= until {
+                if is_end && shaken <= contact.time && contact.time <= self.end {
                     self.host.handshakes.note(took)?;
                 }
             }
-            if is_at_it && from <= contact.time && contact.time <= to {
+            if is_at_it && from <= contact.time && contact.time <= self.end {
                 self.host.take(contact.time, contact.answer);
             }
         }
@@ -250,7 +241,7 @@ impl<'a> Subject<'a> {
     pub(crate) fn heir(&self) -> Option<Heir> {
         let heir = self.facts.members.heir(self.member)?;
         let from = self.begin.saturating_sub(HEIR_BEFORE);
-        let is_timely = from <= heir.time && heir.time <= self.end.saturating_add(HEIR_AFTER);
+        let is_timely = from <= heir.time && heir.time <= self.end;
         if is_timely { Some(heir) } else { None }
     }
 
@@ -327,6 +318,17 @@ impl<'a> Subject<'a> {
 }
 
 impl Host {
+    /// It did nothing yet.
+    fn new(alloc: Global) -> Host {
+        Host {
+            refusals: 0,
+            first_refusal: 0,
+            accepted: 0,
+            half_open: 0,
+            handshakes: Delays::new(alloc),
+        }
+    }
+
     /// Takes in what it did.
     fn take(&mut self, time: u64, answer: Answer) {
         match answer {
@@ -343,6 +345,18 @@ impl Host {
 }
 
 impl Agent {
+    /// It sent nothing until this time.
+    fn new(now: u64) -> Agent {
+        Agent {
+            words: 0,
+            meanwhile: 0,
+            acks: 0,
+            silence: Silence { from: 0, to: 0 },
+            around: Silence { from: 0, to: now },
+            is_new: false,
+        }
+    }
+
     /// Takes in what it sent. Failed probes were sent until this time.
     fn hear(&mut self, word: &Word, refused: u64, until: u64) {
         self.words = self.words.saturating_add(1);

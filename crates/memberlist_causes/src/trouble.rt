@@ -64,10 +64,12 @@ impl Trouble {
         self.legs.iter().any(|(_, target)| *target == member)
     }
 
-    /// Whether one of the probes is of the member, or by it.
-    pub(crate) fn touches(&self, member: Member) -> bool {
-        self.legs
-            .iter()
-            .any(|(prober, target)| *prober == member || *target == member)
+    /// Whether it began before this time, and all that it stands on.
+    pub(crate) fn began_before(&self, time: u64) -> bool {
+        let is_earlier = |evidence: &Evidence| match evidence.since() {
+            Some(since) => since <= time,
+            None => true,
+        };
+        self.begin <= time && self.evidence.iter().all(is_earlier)
     }
 }
