@@ -91,6 +91,11 @@ impl Cause {
         )
     }
 
+    /// Whether loss alone speaks for it, and nothing that the member or its host did.
+    pub(crate) fn is_by_loss(self) -> bool {
+        self.is_weak() || self.is_of_ways()
+    }
+
     /// Whether it is about the way between two members, so that one pair cannot tell of which.
     pub(crate) fn is_of_ways(self) -> bool {
         matches!(

@@ -14,8 +14,11 @@ use crate::{Case, Cause, Member};
 use std::alloc::AllocError;
 use std::collections::{BTreeMap, BTreeSet};
 
-/// How many members are told of one scene at most (own).
+/// How many members are told of one scene that nobody need suspect (own).
 const MOST: usize = 3;
+
+/// How many more suspects are looked at (own). For each, all probes of the scene are.
+const MOST_SUSPECTS: usize = 64;
 
 /// How long before and after trouble numbers that begin anew explain it (own).
 const ANEW_BEFORE: u64 = 12_000_000;
@@ -60,7 +63,8 @@ fn leaving(scene: &Scene) -> Result<Trouble, AllocError> {
     Ok(trouble)
 }
 
-/// Tells of the member that most of the failed probes touch, then of the next of those that are left.
+/// Tells of the member that most of the failed probes touch, then of the next of those that are left,
+/// and at last of the suspects among their targets.
 fn one_by_one(scene: &Scene, troubles: &mut Vec<Trouble>) -> Result<(), AllocError> {
     let mut rest = scene.bad.to_vec(scene.facts.alloc)?;
     for _ in 0..MOST {
@@ -70,6 +74,26 @@ fn one_by_one(scene: &Scene, troubles: &mut Vec<Trouble>) -> Result<(), AllocErr
         let (mine, others) = parted(scene, &rest, member)?;
         troubles.push(trouble_of(scene, member, &mine)?)?;
         rest = others;
+    }
+    suspects_too(scene, rest, troubles)
+}
+
+/// Tells of the suspects among the targets of the probes, if more than loss explains these.
+fn suspects_too<'a>(
+    scene: &Scene<'a>,
+    mut rest: Vec<&'a Case>,
+    troubles: &mut Vec<Trouble>,
+) -> Result<(), AllocError> {
+    for member in scene.suspects(&rest)?.iter().take(MOST_SUSPECTS) {
+        let (mine, others) = parted(scene, &rest, *member)?;
+        if mine.is_empty() {
+            continue;
+        }
+        let trouble = trouble_of(scene, *member, &mine)?;
+        if !trouble.cause.is_by_loss() {
+            troubles.push(trouble)?;
+            rest = others;
+        }
     }
     Ok(())
 }

@@ -81,6 +81,24 @@ impl<'a> Scene<'a> {
         Ok(())
     }
 
+    /// The targets of these probes that are suspected about then.
+    pub(crate) fn suspects(&self, cases: &[&Case]) -> Result<BTreeSet<Member>, AllocError> {
+        let mut suspects = BTreeSet::new(self.facts.alloc);
+        let mut found = BTreeSet::new(self.facts.alloc);
+        let episodes = &self.facts.episodes;
+        for episode in episodes.ended.iter().chain(episodes.open().values()) {
+            if is_near(episode, self.begin, self.last) {
+                suspects.insert(episode.of)?;
+            }
+        }
+        for case in cases {
+            if suspects.contains(&case.target) {
+                found.insert(case.target)?;
+            }
+        }
+        Ok(found)
+    }
+
     /// How many of these probes touch each member.
     pub(crate) fn touched(&self, cases: &[&Case]) -> Result<BTreeMap<Member, u64>, AllocError> {
         let mut counts = BTreeMap::new(self.facts.alloc);
