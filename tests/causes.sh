@@ -31,24 +31,57 @@ for line in sys.stdin:
 ' "$kind" | sort
 }
 
+# told_later FILE..: prints what is told of a suspicion and began after it ended
+told_later() {
+    "$program" why --json "$@" 2> err | python3 -c '
+import json, re, sys
+for line in sys.stdin:
+    told = json.loads(line)
+    end = told.get("dead") or told.get("refuted")
+    for reason in told["evidence"]:
+        moment = re.search(r"\d\d:\d\d:\d\d\.\d+", reason)
+        if end and moment and end["time"][11:26] < moment[0]:
+            print(told["name"], end["time"], reason)
+'
+}
+
 # caused NAME: the causes that are told of the cluster, by each set of captures
 caused() {
+    name=$1
     rm -rf members_of
-    python3 -m tarfile -e "$causes/$1.tar.xz" members_of > err 2>&1
-    rows_of causes "$1" > expected
-    while read -r captures words; do
-        echo "$words" > wanted
+    python3 -m tarfile -e "$causes/$name.tar.xz" members_of > err 2>&1
+    for captures in all one; do
         case $captures in
-            all) told members_of/web-*.pcap > found ;;
-            one) told members_of/web-1.pcap > found ;;
+            all) set -- members_of/web-*.pcap ;;
+            one) set -- members_of/web-1.pcap ;;
         esac
-        check "why members of $1 were suspected, by the captures of $captures"
-    done < expected
+        rows_of causes "$name $captures" | sort > wanted
+        told "$@" > found
+        check "why members of $name were suspected, by the captures of $captures"
+        : > wanted
+        told_later "$@" > found
+        check "no suspicion of $name is explained by what began after it, by the captures of $captures"
+    done
 }
 
 if has_xz > /dev/null; then
-    for each in accuser delay hang kill loss50in onewayin partition restart serfmsgs; do
+    for each in accuser delay hang kill kill4 loss50in onewayin partition restart rollterm serfmsgs; do
         caused "$each"
+    done
+
+    # they were killed, so no suspicion is another member's fault
+    for each in kill4 rollterm; do
+        rm -rf members_of
+        python3 -m tarfile -e "$causes/$each.tar.xz" members_of > err 2>&1
+        rows_of causes "$each all" | sed 's/^[^ ]*/&: &/' | sort > wanted
+        "$program" why --json members_of/web-*.pcap 2> err | python3 -c '
+import json, sys
+for line in sys.stdin:
+    told = json.loads(line)
+    if "name" in told:
+        print(told["name"] + ":", *told["of"], told["cause"])
+' | sort -u > found
+        check "each suspicion of $each is explained by what was done to its member"
     done
 
     # each probe of which only indirect pings tell in web-1's capture is one that the captures of all have
