@@ -4,6 +4,7 @@ It does all that rt ci does for a crate but two things, which `make gate` does: 
 of must-fail/. Each program is built and run as both compilers make it. What is proved is kept as rt ci keeps it, so
 that neither proves again what the other did. The library for C is built from the same proof: rt ci builds nothing of a
 static library, so that a build would prove it again."""
+import concurrent.futures
 import contextlib
 import fcntl
 import hashlib
@@ -90,6 +91,20 @@ def proved_archive(crate, flags):
         os.replace(f"{crate.folder}/out/lib{crate.name}.a", f"{crate.folder}/out/{crate.name}.a")
     rt.clear(f"{crate.folder}/{room}")
     return status
+
+
+def at_once(compile_by):
+    """Has both compilers build a program at the same time: rt ci calls one after the other, and what follows waits."""
+    others = {}
+
+    def begin(crate, backend, words, to):
+        if backend == "rattle":
+            return others.pop(crate.name).result()
+        with concurrent.futures.ThreadPoolExecutor() as pool:
+            others[crate.name] = pool.submit(compile_by, crate, "rattle", words, to)
+            return compile_by(crate, backend, words, to)
+
+    return begin
 
 
 class Watched:
@@ -205,7 +220,8 @@ def prove(names, spent, progress, log, anew=False, beside=lambda tasks: {}):
         progress.begin([key[0] for key in tasks if key[1] == "proof"])
         return in_lanes({**tasks, **beside(tasks)})
 
-    rtlib.subprocess = types.SimpleNamespace(**{**vars(subprocess), "run": watched.run})
+    rtlib.subprocess = rt.subprocess = types.SimpleNamespace(**{**vars(subprocess), "run": watched.run})
+    rt.Crate.compile_by = at_once(rt.Crate.compile_by)
     rt.Crate.has_tests = lambda crate: False
     rt.edits_of = lambda crate: ([], [])
     rt.Crate.ci, rt.Kept, rt.in_lanes = prove_once, Told, with_beside

@@ -27,8 +27,10 @@ class Progress:
         self.counts = {it: functions_of(self.crates[it]) for it in names}
 
     def used(self, name, usage):
+        """Adds what a check or a build of the crate used."""
         with self.lock:
-            self.usage[name] = usage
+            seconds, most = self.usage.get(name, (0.0, 0))
+            self.usage[name] = seconds + usage.ru_utime + usage.ru_stime, max(most, usage.ru_maxrss)
 
     def minutes_left(self):
         """Returns about how many minutes are left: the functions to come, shared by the processors."""
@@ -73,12 +75,11 @@ class Progress:
         with self.lock:
             self.slowest(name, begun)
             self.inside.pop(name, None)
-            usage = self.usage.get(name)
-            if status or not usage:
+            seconds, most = self.usage.get(name, (0.0, 0))
+            if status or not seconds:
                 print(f"  {name} is NOT PROVED", file=kit.OUT, flush=True)
                 return
             self.done.add(name)
-            seconds = usage.ru_utime + usage.ru_stime
             self.proved, self.seconds = self.proved + self.counts[name], self.seconds + seconds
-            took = f"{seconds / 60:.1f} minutes of processor time, {clock / 60:.1f} by the clock, {usage.ru_maxrss / 1e6:.1f} GB"
+            took = f"{seconds / 60:.1f} minutes of processor time, {clock / 60:.1f} by the clock, {most / 1e6:.1f} GB"
             self.line(f"{name} is proved ({took})")
