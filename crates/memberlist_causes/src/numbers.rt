@@ -15,6 +15,9 @@ const AT_ONCE: u64 = 1_000_000;
 /// How many pings an agent may send for others in a second (own), beside its own.
 const FOR_OTHERS: u64 = 3;
 
+/// How many pings one agent sends in a second at most (own): more, and they are of two.
+const MOST_SENT: u64 = 5;
+
 /// How many intervals an agent at work waits at most from one ping to the next (memberlist's
 /// `AwarenessMaxMultiplier`).
 const MAX_SCALE: u64 = 8;
@@ -140,24 +143,41 @@ fn ping_of(word: &Word) -> Option<Ping> {
     }
 }
 
-/// When the numbers of a member's pings began anew in this time, if they did.
+/// Whether the numbers of the process before, of which this was the last, go on after its successor's
+/// pings began: with a leap that one process cannot have sent since the ping before.
+pub(crate) fn goes_on(old: Option<u32>, before: Ping, after: Ping) -> bool {
+    let since = after.time.saturating_sub(before.time);
+    let most = u64::from(NEIGHBOURS).saturating_add(since.saturating_mul(MOST_SENT) / 1_000_000);
+    let leap = u64::from(after.number.saturating_sub(before.number));
+    match old {
+        Some(old) => old < after.number && most < leap,
+        None => false,
+    }
+}
+
+/// When the numbers of a member's pings began anew in this time, if they did, and those before do not
+/// go on.
 pub(crate) fn began_anew(facts: &Facts, member: Member, from: u64, to: u64) -> Option<Numbers> {
     let mut last: Option<Ping> = None;
+    let mut old: Option<u32> = None;
+    let mut found: Option<Numbers> = None;
     for word in facts.words.of(member)? {
         let Some(ping) = ping_of(word) else {
             continue;
         };
-        if word.time < from || to < word.time {
+        if word.time < from {
             continue;
         }
         if let Some(before) = last {
-            if ping.number < before.number {
-                if let Some(numbers) = anew(before, ping) {
-                    return Some(numbers);
-                }
+            if goes_on(old, before, ping) {
+                return None;
+            }
+            if found.is_none() && word.time <= to && ping.number < before.number {
+                found = anew(before, ping);
+                old = Some(before.number);
             }
         }
         last = Some(ping);
     }
-    None
+    found
 }
