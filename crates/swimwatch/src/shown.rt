@@ -3,6 +3,7 @@
 //! | module | subject |
 //! |---|---|
 //! | `members` | `members` |
+//! | `joint` | the members of several views |
 //! | `deadline` | which members are shown, and for which moment |
 //! | `suspicion` | until when a suspicion lasts |
 //! | `timeline` | `timeline` |
@@ -26,6 +27,7 @@ pub(crate) mod claims;
 pub(crate) mod deadline;
 pub(crate) mod distances;
 pub(crate) mod health;
+pub(crate) mod joint;
 pub(crate) mod members;
 pub(crate) mod objects;
 pub(crate) mod probes;

@@ -13,22 +13,21 @@ use std::alloc::{AllocError, Global};
 
 /// A view, and the captures that it hears.
 #[derive(Drop)]
-pub(crate) struct Seat<'a> {
-    pub(crate) watch: Watch<'a>,
+pub(crate) struct Seat {
+    pub(crate) watch: Watch,
     traffic: Traffic,
 }
 
-impl<'a> Seat<'a> {
+impl Seat {
     /// A view with this name, which heard no records yet.
     pub(crate) fn new(
         alloc: Global,
-        setting: Setting<'a>,
+        setting: Setting,
         name: Option<String>,
-    ) -> Result<Seat<'a>, AllocError>
+    ) -> Result<Seat, AllocError>
         ensures { IfOk result (HasHeard (choice_in setting.entry) (first_view setting.entry) []) }
     {
-        let mut watch = Watch::new(alloc, setting, name)?;
-        watch.begin_with(setting.start)?;
+        let watch = Watch::new(alloc, setting, name)?;
         Ok(Seat {
             watch,
             traffic: Traffic::new(alloc),

@@ -21,7 +21,7 @@ use std::alloc::{AllocError, Global};
 pub(crate) struct Seats<'a> {
     alloc: Global,
     pub(crate) setting: Setting<'a>,
-    pub(crate) seats: Vec<Seat<'a>>,
+    pub(crate) seats: Vec<Seat>,
     seating: Seating,
     names: ViewNames<'a>,
 }

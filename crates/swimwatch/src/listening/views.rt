@@ -14,22 +14,12 @@ use crate::listening::seats::Seats;
 use crate::listening::setting::Setting;
 use crate::listening::watch::Watch;
 use crate::shown::agent_log::AgentLog;
-use crate::shown::objects::write_roster;
+use crate::shown::joint::Joint;
 use crate::shown::serf_lines::write_tally;
 use crate::shown::serf_objects::write_tally_object;
 use crate::text::written::Text;
-use crate::view::agreement::{Voice, differing, fullest, opinions_in, write_views};
 use capture::Record;
 use std::alloc::{AllocError, Global};
-
-/// How the members of several views are shown.
-#[derive(Drop)]
-enum Joint {
-    /// As those of the view at this index, which knows all.
-    View(usize),
-    /// As this text.
-    Text(Text),
-}
 
 /// The views of captures, and what they print.
 #[derive(Drop)]
@@ -173,32 +163,13 @@ impl<'a> Views<'a> {
         }
     }
 
-    /// How the members of several views are shown: as one table if they agree, that of the view that
-    /// knows all, if there is one; and else what each shows about the names on which they differ.
+    /// How the members of several views are shown.
     fn joint(&self) -> Result<Joint, AllocError> {
         let mut shown = Vec::new(self.alloc);
         for seat in &self.seats.seats {
             shown.push((seat.watch.name()?, seat.watch.roster()?))?;
         }
-        let mut voices = Vec::new(self.alloc);
-        for (name, roster) in &shown {
-            voices.push(Voice { name, roster })?;
-        }
-        let opinions = opinions_in(self.alloc, &voices)?;
-        if differing(&opinions) == 0 {
-            if let Some(view) = fullest(&voices) {
-                return Ok(Joint::View(view));
-            }
-        }
-        let mut text = Text::new(self.alloc);
-        if !self.seats.setting.chosen.json {
-            write_views(&mut text, &voices, &opinions);
-            return Ok(Joint::Text(text));
-        }
-        for voice in &voices {
-            write_roster(&mut text, voice.name, voice.roster);
-        }
-        Ok(Joint::Text(text))
+        Joint::of(self.alloc, &shown, self.seats.setting.chosen.json)
     }
 
     /// The last moment at which something was captured.
@@ -220,7 +191,7 @@ impl<'a> Views<'a> {
     }
 
     /// The view of all captures, if they are one.
-    pub(crate) fn only(&self) -> Option<&Watch<'a>> {
+    pub(crate) fn only(&self) -> Option<&Watch> {
         match self.seats.seats.as_slice() {
             [seat] => Some(&seat.watch),
             _ => None,

@@ -5,10 +5,10 @@
 //! `spreading` follows news, `locating` coordinates; `showing` shows what was asked for, and
 //! `reporting` all of it in one page.
 
-ghost use Rattle.std.specs.Prelude.{◌≡◌, ◌∷◌, [], IfOk, OnOk};
+ghost use Rattle.std.specs.Prelude.{◌≡◌, IfOk, OnOk};
 ghost use Rattle.memberlist_view.specs.Told.{event_of, view_after};
 ghost use Rattle.swimwatch.specs.Told.{told_text, heard_of};
-ghost use Rattle.swimwatch.specs.Viewed.{begin_with, said_at_start};
+ghost use Rattle.swimwatch.specs.Viewed.{first_view};
 ghost use Rattle.swimwatch.specs.Views.{HearsDatagram};
 
 mod datagrams;
@@ -39,17 +39,14 @@ use crate::shown::report::Gathered;
 use crate::shown::spread::Spread;
 use crate::shown::talkers::{Kind, Talkers};
 use crate::text::moment::Clock;
-use crate::text::texts::NONE;
 use crate::text::window::Window;
 use crate::text::written::Text;
 use crate::view::listener::Listener;
 use crate::view::places::Places;
-use memberlist_keyring::Keyring;
-use memberlist_view::{Event, Heard, MemberName, Said};
+use memberlist_view::{Event, Heard};
 use spreading::spread_of;
 use std::alloc::{AllocError, Global};
 use std::collections::BTreeMap;
-use swim_claim::{Claim, Name};
 use swim_table::Table;
 
 /// An event to print.
@@ -72,9 +69,10 @@ pub(crate) struct Occurrence {
 
 /// Listens to what members sent, and shows what was asked for.
 #[derive(Drop)]
-pub(crate) struct Watch<'a> {
+pub(crate) struct Watch {
     alloc: Global,
-    keys: &'a Keyring,
+    /// Whether there are keys, under which what is heard may be encrypted.
+    has_keys: bool,
     listener: Listener,
     pings: Pings,
     warnings: Warnings,
@@ -118,16 +116,14 @@ pub(crate) struct Watch<'a> {
     clock: Clock,
 }
 
-impl<'a> Watch<'a> {
+impl Watch {
     /// A view with this name, which lines show if there is one.
     pub(crate) fn new(
         alloc: Global,
-        setting: Setting<'a>,
+        setting: Setting,
         name: Option<String>,
-    ) -> Result<Watch<'a>, AllocError>
-        ensures view { IfOk result (λ watch. watch.listener.view
-            ≡ record { wait = setting.entry.chosen.now.wait; entries = [] }) }
-        ensures window { IfOk result (λ watch. watch.window ≡ setting.entry.window) }
+    ) -> Result<Watch, AllocError>
+        ensures { IfOk result (λ watch. watch.listener.view ≡ first_view setting.entry) }
     {
         let Setting {
             keys,
@@ -138,10 +134,11 @@ impl<'a> Watch<'a> {
         let member = copied(alloc, &chosen.member)?;
         let target = copied(alloc, &chosen.probing.target)?;
         let gathered = Gathered::new(alloc, chosen)?;
+        let listener = listener_of(alloc, setting, name)?;
         Ok(Watch {
             alloc,
-            keys,
-            listener: Listener::new(alloc, chosen.wait, name),
+            has_keys: !keys.is_empty(),
+            listener,
             pings: Pings::new(alloc),
             warnings: Warnings::new(alloc),
             places: Places::new(alloc, chosen.verb.shows_places()),
@@ -235,20 +232,6 @@ impl<'a> Watch<'a> {
         }
     }
 
-    /// Begins with the records of a table, as the member that it is from shows them: the deaths in it
-    /// are no suspicions. Nobody is named.
-    pub(crate) fn begin_with(&mut self, claims: &[Claim]) -> Result<(), AllocError>
-        ensures { OnOk result (self.new.listener.view
-            ≡ begin_with self.old.window.begun self.old.listener.view claims.now) }
-    {
-        let time = self.window.begun;
-        for claim in claims {
-            let said = said_at_start(self.alloc, claim)?;
-            self.listener.hear(&Heard { time, said })?;
-        }
-        Ok(())
-    }
-
     /// Whether what was captured at this time is shown.
     fn is_timely(&self, time: u64) -> bool {
         self.window.shows(time)
@@ -289,18 +272,17 @@ impl<'a> Watch<'a> {
     }
 }
 
-/// What a record of the table to begin with says.
-fn said_at_start(alloc: Global, claim: &Claim) -> Result<Said, AllocError>
-    ensures { IfOk result (λ said. said ≡ said_at_start claim.now) }
+/// The listener of a view with this name, which begins with the records of `--start`.
+fn listener_of(
+    alloc: Global,
+    setting: Setting,
+    name: Option<String>,
+) -> Result<Listener, AllocError>
+    ensures { IfOk result (λ listener. listener.view ≡ first_view setting.entry) }
 {
-    match claim {
-        Claim::Confirm { name, inc } => Ok(Said::Dead {
-            name: MemberName::new(name.try_clone(alloc)?),
-            inc: *inc,
-            from: Some(nobody(alloc)?),
-        }),
-        _ => Ok(Said::of_record(claim.try_clone(alloc)?, false)),
-    }
+    let mut listener = Listener::new(alloc, setting.chosen.wait, name);
+    listener.begin_with(setting.window.begun, setting.start)?;
+    Ok(listener)
 }
 
 /// A copy of a name, if there is one.
@@ -308,15 +290,5 @@ fn copied(alloc: Global, name: &Option<Vec<u8>>) -> Result<Option<Vec<u8>>, Allo
     match name {
         Some(name) => Ok(Some(name.to_vec(alloc)?)),
         None => Ok(None),
-    }
-}
-
-/// The name that stands for nobody.
-fn nobody(alloc: Global) -> Result<MemberName, AllocError>
-    ensures { IfOk result (λ name. name ≡ 45 ∷ []) }
-{
-    match Name::copied(alloc, NONE.as_bytes())? {
-        Ok(name) => Ok(MemberName::new(name)),
-        Err(_) => Err(AllocError),
     }
 }

@@ -1,6 +1,7 @@
 //! Text that is written piece by piece.
 
-ghost use Rattle.std.specs.Prelude.{◌≡◌, ◌↔◌, ◌++◌, [], Some, None, IsTrue, IfSome, IfOk, OnErr};
+ghost use Rattle.percent_encoding.specs.Iter.{encoded_text};
+ghost use Rattle.std.specs.Prelude.{◌≡◌, ◌↔◌, ◌++◌, [], Some, None, IsTrue, IfSome, IfOk, OnErr, encode_utf8};
 ghost use Rattle.std.specs.Fmt.{AppendsText};
 ghost use Rattle.std.specs.String.{string_bytes};
 ghost use Rattle.swimwatch.specs.Written.{written};
@@ -58,6 +59,8 @@ impl Text {
 
     /// Adds a character.
     pub(crate) fn push(&mut self, c: char)
+        ensures bytes { IfSome (written self.new) (λ now.
+            now ≡ string_bytes self.old.text ++ encode_utf8 c) }
         ensures sticks { written self.old ≡ None → written self.new ≡ None }
     {
         let added = self.text.push(c);
@@ -76,6 +79,8 @@ impl Text {
 
     /// Adds bytes of which some are escaped as `%XX`.
     pub(crate) fn push_encoded(&mut self, bytes: PercentEncode)
+        ensures bytes { IfSome (written self.new) (λ now.
+            now ≡ string_bytes self.old.text ++ encoded_text bytes.entry) }
         ensures sticks { written self.old ≡ None → written self.new ≡ None }
     {
         let added = bytes.append_to(&mut self.text);
@@ -105,6 +110,9 @@ impl Text {
 
     /// Adds what was written to another text.
     pub(crate) fn push_text(&mut self, other: &Text)
+        ensures bytes { IfSome (written self.new) (λ now.
+            now ≡ string_bytes self.old.text ++ string_bytes other.now.text) }
+        ensures refused { written other.now ≡ None → written self.new ≡ None }
         ensures sticks { written self.old ≡ None → written self.new ≡ None }
     {
         self.push_str(&other.text);

@@ -1,17 +1,18 @@
 //! A listener, which hears what members say and says nothing itself.
 
-ghost use Rattle.std.specs.Prelude.{◌≡◌, [], IfOk, OnOk};
+ghost use Rattle.std.specs.Prelude.{◌≡◌, ◌∷◌, [], IfOk, OnOk};
 ghost use Rattle.memberlist_view.specs.declared.heard.Heard.{Heard};
 ghost use Rattle.memberlist_view.specs.Told.{event_of, view_after};
+ghost use Rattle.swimwatch.specs.Viewed.{begin_with, said_at_start};
 
 use crate::heard::sent::Sent;
-use crate::text::texts::name_text;
+use crate::text::texts::{NONE, name_text};
 use crate::text::written::Text;
 use crate::view::directory::{Directory, place_in, place_of};
-use memberlist_view::{Changed, Entry, Event, Heard, MemberName, View};
+use memberlist_view::{Changed, Entry, Event, Heard, MemberName, Said, View};
 use std::alloc::{AllocError, Global};
 use std::net::SocketAddr;
-use swim_claim::Name;
+use swim_claim::{Claim, Name};
 
 /// A listener: its view of the members, and their endpoints.
 #[derive(Drop)]
@@ -34,6 +35,27 @@ impl Listener {
             directory: Directory::new(alloc),
             name,
         }
+    }
+
+    /// Hears at this time the records of a table, as the member that it is from shows them: the
+    /// deaths in it are no suspicions. Nobody is named.
+    pub(crate) fn begin_with(&mut self, time: u64, claims: &[Claim]) -> Result<(), AllocError>
+        ensures { OnOk result (self.new.view ≡ begin_with time self.old.view claims.now) }
+    {
+        for claim in claims {
+            self.begin_with_one(time, claim)?;
+        }
+        Ok(())
+    }
+
+    /// Hears such a record.
+    fn begin_with_one(&mut self, time: u64, claim: &Claim) -> Result<(), AllocError>
+        ensures { OnOk result (self.new.view ≡ view_after self.old.view
+            (record { time = time; said = said_at_start claim.now })) }
+    {
+        let said = said_at_start(self.alloc, claim)?;
+        self.hear(&Heard { time, said })?;
+        Ok(())
     }
 
     /// Hears what was said, and returns what changed in the view.
@@ -124,4 +146,28 @@ pub(crate) fn write_ends(text: &mut Text, listener: &Listener, sent: &Sent) {
         text.push_str(name);
     }
     text.push_str(")\n");
+}
+
+/// What a record of the table to begin with says.
+fn said_at_start(alloc: Global, claim: &Claim) -> Result<Said, AllocError>
+    ensures { IfOk result (λ said. said ≡ said_at_start claim.now) }
+{
+    match claim {
+        Claim::Confirm { name, inc } => Ok(Said::Dead {
+            name: MemberName::new(name.try_clone(alloc)?),
+            inc: *inc,
+            from: Some(nobody(alloc)?),
+        }),
+        _ => Ok(Said::of_record(claim.try_clone(alloc)?, false)),
+    }
+}
+
+/// The name that stands for nobody.
+fn nobody(alloc: Global) -> Result<MemberName, AllocError>
+    ensures { IfOk result (λ name. name ≡ 45 ∷ []) }
+{
+    match Name::copied(alloc, NONE.as_bytes())? {
+        Ok(name) => Ok(MemberName::new(name)),
+        Err(_) => Err(AllocError),
+    }
 }

@@ -24,7 +24,7 @@ use std::net::SocketAddr;
 use swim_claim::Details;
 use swim_wire::Packet;
 
-impl<'a> Watch<'a> {
+impl Watch {
     /// Hears the messages of a datagram.
     pub(super) fn messages(&mut self, sent: Sent, messages: Messages) -> Result<(), AllocError>
         ensures hears { OnOk result (HearsMessages sent.time messages.read.items

@@ -17,7 +17,7 @@ use serf_view::{Standing, left_time};
 use std::alloc::{AllocError, Global};
 use std::collections::BTreeMap;
 
-impl<'a> Watch<'a> {
+impl Watch {
     /// Hears the times of statuses, those of members that left first.
     pub(super) fn statuses(&mut self, sent: Sent, state: &State) -> Result<(), AllocError>
         ensures { self.new.listener ≡ self.old.listener }

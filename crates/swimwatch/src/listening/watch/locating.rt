@@ -11,7 +11,7 @@ use serf_message::{Coordinate, SerfFault, decode_coordinate};
 use serf_view::round_trip;
 use std::alloc::AllocError;
 
-impl<'a> Watch<'a> {
+impl Watch {
     /// Notes where the member is that sent an ack with this payload: the one that the ping named, or
     /// else the one at the end that sent it. A coordinate from which nothing follows, not even to
     /// itself, has a number that is none, and is counted.

@@ -13,7 +13,7 @@ use std::alloc::AllocError;
 use std::net::SocketAddr;
 use swim_claim::Claim;
 
-impl<'a> Watch<'a> {
+impl Watch {
     /// Takes in that a packet was captured.
     pub(crate) fn captured(&mut self, sent: &Sent) -> Result<(), AllocError>
         ensures { self.new.listener ≡ self.old.listener }

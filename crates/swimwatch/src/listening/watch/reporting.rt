@@ -14,7 +14,7 @@ use crate::text::written::Text;
 use crate::view::change::Change;
 use std::alloc::AllocError;
 
-impl<'a> Watch<'a> {
+impl Watch {
     /// Takes in a change, for the chart and for the timeline.
     pub(super) fn report_event(&mut self, sent: &Sent, change: &Change) -> Result<(), AllocError>
         ensures { self.new.listener ≡ self.old.listener }
@@ -77,7 +77,7 @@ impl<'a> Watch<'a> {
             object.text("first", moment_text(alloc, span.first));
             object.text("last", moment_text(alloc, span.last));
         }
-        object.text("read", self.counts.text(alloc, !self.keys.is_empty()));
+        object.text("read", self.counts.text(alloc, self.has_keys));
         let mut text = Text::new(alloc);
         object.write(&mut text);
         text.end()

@@ -19,7 +19,7 @@ use std::alloc::AllocError;
 /// The bit of a response that makes it a receipt (Serf's `queryFlagAck`, messages.go).
 const ACK: u32 = 1;
 
-impl<'a> Watch<'a> {
+impl Watch {
     /// Hears the body of a user message. What is none of Serf's messages, or has bytes behind one,
     /// is counted.
     pub(super) fn user(&mut self, sent: Sent, body: &[u8]) -> Result<(), AllocError>
@@ -142,11 +142,7 @@ impl<'a> Watch<'a> {
             return Ok(());
         }
         let key = self.event_key(event)?;
-        if self.came.contains_key(&key) {
-            return Ok(());
-        }
-        if self.member.is_some() || !self.is_timely(sent.time) {
-            self.came.insert(key, 1)?;
+        if !self.is_news(&key, sent.time)? {
             return Ok(());
         }
         let mut line = Text::new(self.alloc);
@@ -168,20 +164,10 @@ impl<'a> Watch<'a> {
             return Ok(());
         }
         let key = format!(in self.alloc; "query {} {}", query.time, query.id)?;
-        if self.came.contains_key(&key) {
+        if !self.is_news(&key, sent.time)? {
             return Ok(());
         }
-        if self.member.is_some() || !self.is_timely(sent.time) {
-            self.came.insert(key, 1)?;
-            return Ok(());
-        }
-        let micros = u64::try_from(query.timeout / 1000).unwrap_or(0);
-        self.sightings.push(Sighting::Asked {
-            id: (query.time, query.id),
-            name: query.name.to_vec(self.alloc)?,
-            time: sent.time,
-            until: sent.time.saturating_add(micros),
-        })?;
+        self.note_query(query, sent.time)?;
         let mut line = Text::new(self.alloc);
         if self.json {
             write_query_object(&mut line, &self.listener, &sent, query);
@@ -189,6 +175,37 @@ impl<'a> Watch<'a> {
             write_query(&mut line, &self.listener, &sent, query);
         }
         self.tell(key, line.end()?)
+    }
+
+    /// Whether this came for the first time, and is shown. What is not shown is noted as come.
+    fn is_news(&mut self, key: &String, time: u64) -> Result<bool, AllocError>
+        ensures listener { self.new.listener ≡ self.old.listener }
+        ensures serf { self.new.serf ≡ self.old.serf }
+    {
+        if self.came.contains_key(key) {
+            return Ok(false);
+        }
+        let is_shown = self.member.is_none() && self.is_timely(time);
+        if !is_shown {
+            self.came.insert(key.clone()?, 1)?;
+        }
+        Ok(is_shown)
+    }
+
+    /// Notes that a query was asked, to tell later what came of it.
+    fn note_query(&mut self, query: &Query, time: u64) -> Result<(), AllocError>
+        ensures listener { self.new.listener ≡ self.old.listener }
+        ensures serf { self.new.serf ≡ self.old.serf }
+    {
+        let micros = u64::try_from(query.timeout / 1000).unwrap_or(0);
+        self.sightings
+            .push(Sighting::Asked {
+                id: (query.time, query.id),
+                name: query.name.to_vec(self.alloc)?,
+                time,
+                until: time.saturating_add(micros),
+            })
+            .map_err(AllocError::from)
     }
 
     /// Hears an answer to a query, or a receipt.

@@ -23,7 +23,7 @@ use std::alloc::AllocError;
 use swim_table::{EncodeFault, encode};
 use swim_wire::Packet;
 
-impl<'a> Watch<'a> {
+impl Watch {
     /// Shows what a message said, or what it changed.
     pub(super) fn show(
         &mut self,

@@ -18,7 +18,7 @@ pub(super) fn spread_of(alloc: Global, chosen: &Chosen) -> Option<Spread> {
     }
 }
 
-impl<'a> Watch<'a> {
+impl Watch {
     /// Takes in that a packet was captured.
     pub(super) fn spread_packet(&mut self, sent: &Sent) -> Result<(), AllocError>
         ensures { self.new.listener ≡ self.old.listener }

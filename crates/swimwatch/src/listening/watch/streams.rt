@@ -19,7 +19,7 @@ use std::alloc::AllocError;
 use std::net::SocketAddr;
 use swim_claim::Claim;
 
-impl<'a> Watch<'a> {
+impl Watch {
     /// Takes in one direction of a connection that may still grow, if it is a whole push/pull
     /// stream, and returns whether it is.
     pub(crate) fn whole_stream(

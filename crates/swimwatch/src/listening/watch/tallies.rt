@@ -9,7 +9,7 @@ use memberlist_view::Said;
 use std::alloc::AllocError;
 use std::net::SocketAddr;
 
-impl<'a> Watch<'a> {
+impl Watch {
     /// Counts a message of this kind. Who sent it runs.
     pub(super) fn said(&mut self, sent: Sent, kind: Kind) -> Result<(), AllocError>
         ensures { self.new.listener ≡ self.old.listener }

@@ -1,8 +1,8 @@
-use Rattle.std.proofs.Common.{◌≡◌, [], sym, ap₂, ◌∙◌}
+use Rattle.std.proofs.Common.{◌≡◌, [], sym}
 use Rattle.std.proofs.Math.Path.{subst}
 use Rattle.capture.specs.Captured.{AreFlowsOf}
 use Rattle.swimwatch.specs.Connected.{AreRead}
-use Rattle.swimwatch.specs.Viewed.{begin_with, choice_in, first_view}
+use Rattle.swimwatch.specs.Viewed.{choice_in, first_view}
 use Rattle.swimwatch.proofs.Seats.{captures_begin}
 use Rattle.swimwatch.proofs.listening.seat.Seat.new.Goals as goal
 
@@ -10,9 +10,8 @@ pub returns : goal.returns
 returns c =
     let s = choice_in c.args.setting in
     let first = first_view c.args.setting in
-    let view = c.begin_with.new.self.listener.view in
-    let same : view ≡ first = c.in_ok-begin_with.ensures
-    ∙ ap₂ (λ w v. begin_with w.begun v c.args.setting.start.now) c.in_ok-watch.ensures.window c.in_ok-watch.ensures.view in (
+    let view = c.in_ok-watch.watch.listener.view in
+    let same : view ≡ first = c.in_ok-watch.ensures in (
       [],
       [],
       [],

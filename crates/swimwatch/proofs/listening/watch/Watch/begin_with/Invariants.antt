@@ -1,7 +1,0 @@
-use Rattle.std.proofs.Common.{◌≡◌, take}
-use Rattle.swimwatch.specs.Viewed.{begin_with}
-use Rattle.swimwatch.proofs.listening.watch.Watch.begin_with.Given as goal
-
-abbrev pub invariant-loop-claim : goal.invariant-loop-claim
-invariant-loop-claim l =
-    l.self.listener.view ≡ begin_with l.time l.initial.self.listener.view (take l.claim-index l.claims)
