@@ -28,14 +28,14 @@ _swimwatch() {
             options='--wait --suspicion-mult --member --from --to --for --start --port --label --probe-timeout
                 --probe-interval'
             ;;
-        pull) options='--every --count --metrics --events --timeout --label --json --dump' ;;
+        pull) options='--every --count --metrics --forget --events --timeout --label --json --dump' ;;
         diff) options='--at --wait --timeout --label --json' ;;
         *) return ;;
     esac
     case $before in
         --key-file | --start | --agent-log | --metrics) compopt -o default ;;
         --wait | --suspicion-mult | --at | --from | --to | --for | --port | --label | --member | --prober | --target | \
-            --probe-timeout | --probe-interval | --every | --count | --timeout) ;;
+            --probe-timeout | --probe-interval | --every | --count | --forget | --timeout) ;;
         *)
             if [[ $word == -* ]]; then
                 mapfile -t COMPREPLY < <(compgen -W "--key-file --accept-clear $options --help -h" -- "$word")

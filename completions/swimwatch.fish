@@ -57,6 +57,7 @@ __swimwatch_option "timeline pull" -l events -d 'Show only the user events of Se
 __swimwatch_option pull -l every -x -d 'Ask again after this time'
 __swimwatch_option pull -l count -x -d 'With --every: end after asking this often'
 __swimwatch_option pull -l metrics -r -F -d 'With --every: write metrics to this file'
+__swimwatch_option pull -l forget -x -d 'With --every: keep a dead member that no answer names only for this time'
 __swimwatch_option "pull diff" -l timeout -x -d 'Seconds to wait for the answer of a member'
 __swimwatch_option pull -l dump -d 'Write the table as one push/pull stream'
 __swimwatch_option pull -f -a '(__fish_print_hostnames)'

@@ -163,6 +163,7 @@ swimwatch_members{member="127.0.0.1:PORT",state="alive"} 2
 swimwatch_members{member="127.0.0.1:PORT",state="suspect"} 0
 swimwatch_members{member="127.0.0.1:PORT",state="dead"} 0
 swimwatch_members{member="127.0.0.1:PORT",state="left"} 1
+swimwatch_members{member="127.0.0.1:PORT",state="forgotten"} 0
 swimwatch_changes_total{name="l3",to="left"} 1
 END_OF_METRICS
 check 'the metrics of a member that left'
@@ -190,6 +191,113 @@ cat > wanted <<'END_OF_EVENTS'
 ['host', 'ltime', 'payload', 'payload_text', 'time', 'user_event'] 9 deploy 7633 v3
 END_OF_EVENTS
 check 'the objects of events that are new'
+
+# ---- names that Serf knows, and of which the table has no record
+
+# Serf's state few, in which it knows l4, l5 and a name that no member can have too, and l5 left
+sum() {
+    state few | sed "s/ab4c6566744d656d6265727390/ab4c6566744d656d6265727391a26c35/
+        s/ac5374617475734c54696d657381a26c3303/ac5374617475734c54696d657384a26c3303a26c3404a26c3505da0401$(printf '%02050d' 0)01/"
+}
+recalls lost.bin 02 "$(sum)"
+member closes lost.bin
+lost=$port
+run pull "127.0.0.1:$lost"
+prints 'a name that Serf knows and the table does not have' 1 \
+    'NAME  ADDRESS          STATE  INC' \
+    'l1    127.0.4.1:43227  alive  1' \
+    'l2    127.0.4.2:45729  alive  1' \
+    'l3    127.0.4.3:33603  dead   1' \
+    'NAME  ADDRESS  STATE      INC' \
+    'l4    -        forgotten  -'
+run pull "127.0.0.1:$lost" "127.0.0.1:$few"
+prints 'a name that one of two members forgot' 1 \
+    'NAME  ADDRESS          STATE  INC  AGREE' \
+    'l1    127.0.4.1:43227  alive  1    2 of 2' \
+    'l2    127.0.4.2:45729  alive  1    2 of 2' \
+    'l3    127.0.4.3:33603  dead   1    2 of 2' \
+    'NAME  ADDRESS  STATE      INC  AGREE' \
+    'l4    -        forgotten  -    1 of 2'
+"$program" pull --json "127.0.0.1:$lost" 2> err | tail -n 1 > found
+echo "{\"host\":\"127.0.0.1:$lost\",\"name\":\"l4\",\"state\":\"forgotten\"}" > wanted
+check 'the object of a forgotten name'
+run diff lost.bin "127.0.0.1:$few"
+ends 'a forgotten name is in no side' 0
+
+# down FILE: prints the names that are down on a page of metrics, with their states, and what was left out.
+down() { sed -nE 's/^swimwatch_member_down\{member="[^"]*",name="([^"]*)",state="([^"]*)"\} 1$/\1 \2/p; s/^(swimwatch_surplus.*)/\1/p' "$1"; }
+# changes: prints the lines of the last run that tell of changes, without their time and member.
+changes() { followed out | grep -v ' answers: \| no answer ' | sed 's/^TIME //; s/ (at .*//'; }
+
+# l3 was dead and is in no table; it is back, dead and in no table again; it left
+recalls here.bin 00 "$(state none)"
+member closes few.bin,nobody.bin,nobody.bin
+run pull --every 100ms --count 3 --metrics page.prom "127.0.0.1:$port"
+changes > found
+printf '%s\n' 'l1 alive -> absent' 'l2 alive -> absent' 'l3 dead -> forgotten' > wanted
+check 'a dead member that the table no longer has is told as forgotten'
+ends 'a member that is forgotten, and no other is down' 1
+down page.prom > found
+printf '%s\n' 'l3 forgotten' 'swimwatch_surplus_total 0' > wanted
+check 'the metrics of a dead member that the table no longer has'
+grep '^swimwatch_changes_total.*"l3"' page.prom > found
+echo 'swimwatch_changes_total{name="l3",to="forgotten"} 1' > wanted
+check 'how often a member was forgotten'
+member closes few.bin,nobody.bin,here.bin,few.bin,nobody.bin,left.bin,nobody.bin
+run pull --every 100ms --count 7 --metrics page.prom "127.0.0.1:$port"
+changes | grep l3 > found
+printf '%s\n' 'l3 dead -> forgotten' 'l3 forgotten -> alive 1 at 127.0.4.3:33603' 'l3 alive -> dead 1' \
+    'l3 dead -> forgotten' 'l3 forgotten -> left 1 at 127.0.4.3:33603' 'l3 left -> absent' > wanted
+check 'a forgotten member that is back, and one that left'
+ends 'nothing is down any more' 0
+down page.prom > found
+echo 'swimwatch_surplus_total 0' > wanted
+check 'the metrics after a forgotten member was back and left'
+recalls gone.bin 02 "$(sum | sed 's/9[01]a26c35/92a26c34a26c35/')"
+member closes lost.bin,gone.bin
+run pull --every 100ms --count 2 --metrics page.prom "127.0.0.1:$port"
+changes > found
+echo 'l4 forgotten -> left' > wanted
+check 'a forgotten member that was made to leave'
+member closes few.bin,nobody.bin,nothing
+run pull --every 100ms --count 4 --metrics page.prom "127.0.0.1:$port"
+down page.prom > found
+printf '%s\n' 'l3 forgotten' 'swimwatch_surplus_total 0' > wanted
+check 'a forgotten member is down while the member that is asked is silent'
+member closes few.bin,nobody.bin
+run pull --every 400ms --count 4 --forget 1s --metrics page.prom "127.0.0.1:$port"
+changes | grep l3 > found
+printf '%s\n' 'l3 dead -> forgotten' 'l3 forgotten -> absent' > wanted
+check 'a member is forgotten for as long as --forget says'
+member closes few.bin,nobody.bin
+"$program" pull --json --every 100ms --count 2 "127.0.0.1:$port" 2> err | python3 -c '
+import json, sys
+for line in sys.stdin:
+    o = json.loads(line)
+    if o.get("name") == "l3":
+        print(o["before"]["state"], o["before"]["incarnation"], o["after"])' > found
+echo "dead 1 {'state': 'forgotten'}" > wanted
+check 'the object of a member that is forgotten'
+
+# a member that invents 6,000 other names each time
+python3 - <<'END_OF_STATES'
+import struct
+for part in range(3):
+    names = b"".join(b"\xa5" + b"%05d" % n + b"\x01" for n in range(part * 6000, part * 6000 + 6000))
+    user = b"\x02\x96\x01\xde" + struct.pack(">H", 6000) + names + b"\x90\x01\x90\x01"
+    head = b"\x06\x83\xa4Join\xc2\xa5Nodes\x00\xacUserStateLen\xce" + struct.pack(">I", len(user))
+    open("invented%d.bin" % part, "wb").write(head + user)
+END_OF_STATES
+member closes invented0.bin,invented1.bin,invented2.bin
+run pull --every 100ms --count 3 --metrics page.prom "127.0.0.1:$port"
+down page.prom | awk '/ forgotten$/ { count++ } END { print count }' > found
+echo 10000 > wanted
+check 'no more than 10,000 forgotten names are kept'
+# In the second round 6,000 names are new and 4,000 of 6,000 are kept: 2,000 are left out. In the third 4,000 of 10,000
+# are kept: 6,000 are left out. 14,000 names changed in all, of which 10,000 are counted, and 4,000 are left out.
+grep '^swimwatch_surplus_total' page.prom > found
+echo 'swimwatch_surplus_total 12000' > wanted
+check 'how many names were left out'
 
 # states of 300,000 events, of which the second has one more at the front, and one whose count claims more than it has
 python3 - <<'END_OF_STATES'
@@ -220,6 +328,7 @@ prints 'a state that claims more events than it has' 0 'LTIME  EVENT  PAYLOAD'
 if can_refuse; then
     each_refused 'pull of events' /dev/null pull --events "127.0.0.1:$all" "127.0.0.1:$few"
     each_refused 'pull of events as objects' /dev/null pull --events --json "127.0.0.1:$all"
+    each_refused 'pull of a forgotten name' /dev/null pull "127.0.0.1:$lost" "127.0.0.1:$few"
 fi
 
 # ---- the events of live members
@@ -235,14 +344,15 @@ if command -v serf > /dev/null && [ -z "${MUTANT:-}" ]; then
             waited=$((waited + 1))
         done
     }
-    for n in 1 2 3; do
+    for n in 1 2 3 4; do
         serf agent -node="ev-$n" -bind="127.0.21.$n:17946" -rpc-addr="127.0.21.$n:17373" \
             -join=127.0.21.1:17946 -retry-join=127.0.21.1:17946 > "event$n.log" 2>&1 &
         members="$members $!"
+        [ "$n" != 3 ] || third=$!
         sleep 1
     done
-    third=$!
-    until_in alive 3
+    fourth=$!
+    until_in alive 4
     serf event -rpc-addr=127.0.21.1:17373 deploy v1 > event.log 2>&1
     serf event -rpc-addr=127.0.21.2:17373 -coalesce=false 'roll out' >> event.log 2>&1
     sleep 2
@@ -255,8 +365,8 @@ N roll%20out 2 of 2
 END_OF_EVENTS
     check 'the events that two live members remember'
     # memberlist has a member that was killed as dead; Serf has it as left when somebody says so
-    kill -KILL "$third"
-    until_in failed 1
+    kill -KILL "$third" "$fourth"
+    until_in failed 2
     run pull 127.0.21.1:17946
     awk '$1 == "ev-3" { print $3 }' out > found
     echo dead > wanted
@@ -267,6 +377,26 @@ END_OF_EVENTS
     awk '$1 == "ev-3" { print $3 }' out > found
     echo left > wanted
     check 'a live member that was killed and was made to leave'
+    # memberlist drops the other one from its table in the meantime, and Serf knows it
+    waited=0
+    while [ "$waited" -lt 60 ]; do
+        run pull 127.0.21.1:17946
+        awk '$1 == "ev-4" { print $3 }' out > found
+        ! grep -q dead found || { sleep 1; waited=$((waited + 1)); continue; }
+        break
+    done
+    echo forgotten > wanted
+    check 'a live member that was killed and is in no table any more'
+    in_state failed > found
+    echo 1 > wanted
+    check 'and Serf has it as failed'
+    ends 'the status of a live member that was forgotten' 1
+    serf force-leave -rpc-addr=127.0.21.1:17373 ev-4 >> event.log 2>&1
+    until_in left 2
+    run pull 127.0.21.1:17946
+    grep ev-4 out > found
+    : > wanted
+    check 'a live member that was forgotten and was made to leave'
 else
     echo 'skipped: the events of live members: serf is not installed'
 fi

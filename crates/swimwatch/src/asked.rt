@@ -15,6 +15,7 @@
 //! | `follow` | asking again and again |
 //! | `metrics` | a page for Prometheus |
 //! | `remembered` | the user events that members remember |
+//! | `unlisted` | names that members know, and have no record of |
 
 pub(crate) mod agreed;
 pub(crate) mod answer;
@@ -29,3 +30,4 @@ pub(crate) mod remembered;
 pub(crate) mod request;
 pub(crate) mod ring;
 pub(crate) mod silence;
+pub(crate) mod unlisted;

@@ -223,4 +223,6 @@ pub(crate) struct Following {
     pub(crate) count: Option<u64>,
     /// The file to which metrics are written after each round, if there is one.
     pub(crate) metrics: Option<String>,
+    /// How long a name is kept that no answer names, if not for ever.
+    pub(crate) forget: Option<Duration>,
 }

@@ -10,6 +10,7 @@ use jiff::fmt::friendly::parse_unsigned_duration;
 use memberlist_cipher::MAX_LABEL_LEN;
 use memberlist_transport::InTheClear;
 use std::alloc::{AllocError, Global};
+use std::time::Duration;
 use swim_program::{WordFault, texts_of};
 
 /// memberlist's `GossipToTheDeadTime` in a local network, in seconds.
@@ -154,13 +155,19 @@ fn name_of(alloc: Global, word: Option<&str>) -> Result<Option<Vec<u8>>, AllocEr
 
 /// The microseconds that a word says, at least one, if there is a word.
 fn micros_of(word: Option<&str>, refusal: &'static str) -> Result<Option<u64>, Refusal> {
+    match span_of(word, refusal)? {
+        Some(span) => Ok(Some(u64::try_from(span.as_micros()).unwrap_or(u64::MAX))),
+        None => Ok(None),
+    }
+}
+
+/// The time that a word says, at least a microsecond, if there is a word.
+fn span_of(word: Option<&str>, refusal: &'static str) -> Result<Option<Duration>, Refusal> {
     let Some(word) = word else {
         return Ok(None);
     };
     match parse_unsigned_duration(word.as_bytes()) {
-        Ok(span) if span.as_micros() > 0 => {
-            Ok(Some(u64::try_from(span.as_micros()).unwrap_or(u64::MAX)))
-        }
+        Ok(span) if span.as_micros() > 0 => Ok(Some(span)),
         _ => Err(Refusal::Value(refusal)),
     }
 }
@@ -178,10 +185,11 @@ fn following_of(alloc: Global, found: &ArgMatches) -> Result<Option<Following>, 
         None => None,
         Some(word) => Some(String::from_str(alloc, word)?),
     };
+    let forget = span_of(found.get_str("forget"), "--forget needs a time like 24h")?;
     let Some(word) = found.get_str("every") else {
-        return match (count, metrics) {
-            (None, None) => Ok(None),
-            _ => Err(Refusal::Value("--count and --metrics need --every")),
+        return match (count, metrics, forget) {
+            (None, None, None) => Ok(None),
+            _ => Err(Refusal::Value("--count, --metrics and --forget need --every")),
         };
     };
     match parse_unsigned_duration(word.as_bytes()) {
@@ -189,6 +197,7 @@ fn following_of(alloc: Global, found: &ArgMatches) -> Result<Option<Following>, 
             every,
             count,
             metrics,
+            forget,
         })),
         _ => Err(Refusal::Value("--every needs a time like 2s or 500ms, at least 100ms")),
     }

@@ -62,6 +62,9 @@ pub(crate) const COUNT: &str = "With --every: end after asking this often";
 pub(crate) const METRICS: &str =
     "With --every: write metrics to this file each time, in Prometheus' text format";
 
+pub(crate) const FORGET: &str =
+    "With --every: keep a dead member that no answer names only for this time, as 24h";
+
 pub(crate) const PROBER: &str = "Show only the probes of this member";
 
 pub(crate) const TARGET: &str = "Show only probes of this member by others";

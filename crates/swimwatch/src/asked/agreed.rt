@@ -2,6 +2,7 @@
 
 use crate::asked::ask::{Answer, Asked};
 use crate::asked::silence::Silence;
+use crate::asked::unlisted::{forgotten_in, write_forgotten, write_forgotten_objects};
 use crate::text::json::Object;
 use crate::text::texts::name_text;
 use crate::text::written::Text;
@@ -30,7 +31,8 @@ fn answers_in<'a>(alloc: Global, asked: &'a [Asked]) -> Result<Vec<Voice<'a>>, A
     Ok(answers)
 }
 
-/// The exit status: 0 if all answered and agree, 4 if none answered, and otherwise 1.
+/// The exit status: 0 if all answered and agree, and none of them forgot a name; 4 if none answered,
+/// and otherwise 1.
 pub(crate) fn status_of(alloc: Global, asked: &[Asked]) -> Result<u8, AllocError> {
     let answers = answers_in(alloc, asked)?;
     if answers.is_empty() {
@@ -38,12 +40,13 @@ pub(crate) fn status_of(alloc: Global, asked: &[Asked]) -> Result<u8, AllocError
     }
     let opinions = opinions_in(alloc, &answers)?;
     let agree = answers.len() == asked.len() && differing(&opinions) == 0;
-    Ok(u8::from(!agree))
+    let knows_all = forgotten_in(alloc, asked)?.is_empty();
+    Ok(u8::from(!agree || !knows_all))
 }
 
 /// Adds a row for each name: what most members report, and if several were asked, how many of those
-/// that answered do. Below it, for each name on which not all agree, a row for each member; and a
-/// row for each member without an answer.
+/// that answered do. Below it, for each name on which not all agree, a row for each member; a row for
+/// each name that members forgot; and a row for each member without an answer.
 pub(crate) fn write_asked(
     text: &mut Text,
     asked: &[Asked],
@@ -62,6 +65,7 @@ pub(crate) fn write_asked(
         if differing(&opinions) > 0 {
             write_others(text, &answers, &opinions);
         }
+        write_forgotten(text, &forgotten_in(alloc, asked)?, members);
     }
     write_silent(text, asked, is_keyless);
     Ok(())
@@ -87,6 +91,7 @@ pub(crate) fn write_asked_objects(text: &mut Text, asked: &[Asked], is_keyless: 
                 for (name, known) in answer.roster.iter() {
                     write_object(text, answer, name, known);
                 }
+                write_forgotten_objects(text, answer);
             }
             Err(silence) => write_silent_object(text, silence, is_keyless),
         }

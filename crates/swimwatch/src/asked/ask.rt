@@ -8,6 +8,7 @@ use crate::asked::inquiry::Inquiry;
 use crate::asked::request::request;
 use crate::asked::ring::Ring;
 use crate::asked::silence::Silence;
+use crate::asked::unlisted::Unlisted;
 use crate::heard::serf_state::UserEvents;
 use crate::text::said::{misused, said};
 use crate::view::roster::Roster;
@@ -34,8 +35,12 @@ pub(crate) struct Answer {
     pub(crate) stream: Vec<u8>,
     /// What the stream says.
     pub(crate) roster: Roster,
+    /// What it says about names that the roster does not have.
+    pub(crate) unlisted: Unlisted,
     /// The user events in Serf's state, if the stream has one.
     pub(crate) events: UserEvents,
+    /// When it was there.
+    pub(crate) at: Instant,
     /// How it was given.
     pub(crate) way: Way,
 }

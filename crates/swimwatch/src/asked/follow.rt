@@ -7,18 +7,22 @@ use crate::asked::ask::{Answer, Asked, Target, ask_all, targets_of};
 use crate::asked::metrics::{Tally, metrics_of, write_anew};
 use crate::asked::remembered::write_new_events;
 use crate::asked::ring::Ring;
+use crate::asked::unlisted::Unlisted;
 use crate::shown::changes::{changed, write_step, write_step_object};
 use crate::text::json::Object;
 use crate::text::moment::write_moment;
+use crate::text::names::write_name;
 use crate::text::said::said;
-use crate::text::texts::moment_text;
+use crate::text::texts::{moment_text, name_text, write_place_and_meta};
 use crate::text::written::Text;
+use crate::view::directory::copy_of;
 use key_files::keyring_of;
 use memberlist_view::MemberName;
 use std::alloc::{AllocError, Global};
+use std::collections::BTreeMap;
 use std::process::ExitCode;
 use std::thread;
-use std::time::{Instant, SystemTime};
+use std::time::{Duration, Instant, SystemTime};
 use swim_program::{Failure, print_bytes};
 
 /// A member that is followed.
@@ -39,6 +43,11 @@ impl Followed {
             None => self.answer.as_ref(),
             Some(_) => None,
         }
+    }
+
+    /// The last thing that it answered, if it ever did.
+    pub(crate) fn last(&self) -> Option<&Answer> {
+        self.answer.as_ref()
     }
 }
 
@@ -69,7 +78,8 @@ pub(crate) fn follow(
             wait(rt, following, watch.begun)?;
         }
         watch.begun = Instant::now(rt).ok();
-        let asked = ask_all(rt, &mut ring, &chosen.asking, &targets)?;
+        let mut asked = ask_all(rt, &mut ring, &chosen.asking, &targets)?;
+        watch.keep(&mut asked, following.forget)?;
         status = status_of(alloc, &asked)?;
         watch.hear(now(rt)?, asked, &mut targets)?;
         print_bytes(rt, NAME, watch.text.as_str()?.as_bytes())?;
@@ -143,6 +153,17 @@ impl Watched {
             shown,
             begun: None,
         })
+    }
+
+    /// Keeps in each answer what the member's last one had as dead or forgotten.
+    fn keep(&self, asked: &mut [Asked], forget: Option<Duration>) -> Result<(), AllocError> {
+        let alloc = self.text.alloc();
+        for (told, followed) in asked.iter_mut().zip(&self.followed) {
+            if let (Ok(answer), Some(last)) = (told, &followed.answer) {
+                answer.keep(alloc, last, forget)?;
+            }
+        }
+        Ok(())
     }
 
     /// Takes what came of a round that ended at this time, in the order of the targets.
@@ -238,14 +259,31 @@ fn write_news(
     shown: Shown,
 ) -> Result<(), AllocError> {
     let alloc = text.alloc();
-    let names = changed(alloc, &before.roster, &after.roster)?;
+    let mut names = changed(alloc, &before.roster, &after.roster)?;
+    note_forgotten(alloc, &mut names, &before.unlisted, &after.unlisted)?;
+    note_forgotten(alloc, &mut names, &after.unlisted, &before.unlisted)?;
     for (name, ()) in names.iter() {
-        tally.count(alloc, name, after.roster.get(name))?;
+        tally.count(alloc, name, after.state_of(name))?;
         if !shown.events {
             write_name_news(text, time, name, before, after, shown.json);
         }
     }
     write_new_events(text, time, before, after, shown.json);
+    Ok(())
+}
+
+/// Notes the names that are forgotten in the first of two answers alone.
+fn note_forgotten(
+    alloc: Global,
+    names: &mut BTreeMap<MemberName, ()>,
+    one: &Unlisted,
+    other: &Unlisted,
+) -> Result<(), AllocError> {
+    for (name, _) in one.forgotten.iter() {
+        if !other.has(name) {
+            names.insert(copy_of(alloc, name)?, ())?;
+        }
+    }
     Ok(())
 }
 
@@ -261,14 +299,44 @@ fn write_name_news(
     let alloc = text.alloc();
     let was = before.roster.get(name);
     let is = after.roster.get(name);
+    let is_forgetting = before.unlisted.has(name) || after.unlisted.has(name);
     if json {
         let mut object = Object::new(alloc);
         object.text("time", moment_text(alloc, time));
         object.word("host", &after.host);
-        return write_step_object(text, object, name, was, is);
+        if !is_forgetting {
+            return write_step_object(text, object, name, was, is);
+        }
+        object.text("name", name_text(alloc, name));
+        object.object("before", before.object_of(alloc, name));
+        object.object("after", after.object_of(alloc, name));
+        return object.write(text);
     }
     write_moment(text, time);
     text.push(' ');
-    write_step(text, name, was, is);
+    if is_forgetting {
+        write_forgetting(text, name, before, after);
+    } else {
+        write_step(text, name, was, is);
+    }
     write!(text, " (at {})\n", after.host)
+}
+
+/// Adds what became of a name that is forgotten, or was: `f3 dead -> forgotten`, `f3 forgotten ->
+/// alive 2 at 10.20.1.13:7946`.
+fn write_forgetting(text: &mut Text, name: &MemberName, before: &Answer, after: &Answer) {
+    write_name(text, name.name().bytes());
+    write!(
+        text,
+        " {} -> {}",
+        before.state_of(name),
+        after.state_of(name)
+    );
+    if let Some(is) = after.roster.get(name) {
+        write!(text, " {}", is.inc);
+        match &is.details {
+            Some(details) => write_place_and_meta(text, details),
+            None => {}
+        }
+    }
 }

@@ -4,6 +4,7 @@ use crate::asked::answer::{NoAnswer, stream_in};
 use crate::asked::ask::{Answer, Asked, Round, Target, Way};
 use crate::asked::connection::{Exchange, NoReply, Step};
 use crate::asked::silence::{Cause, Silence};
+use crate::asked::unlisted::Unlisted;
 use crate::heard::carriage::NoStream;
 use crate::heard::serf_state::UserEvents;
 use crate::view::roster::Roster;
@@ -159,19 +160,13 @@ impl Inquiry {
         let len = received.len();
         let now = round.now()?;
         let cause = match table_in(round, received)? {
-            Ok((stream, roster, events)) => {
-                self.state = State::Answered(Answer {
-                    host: String::from_str(round.alloc(), &self.host)?,
-                    stream,
-                    roster,
-                    events,
-                    way: Way {
-                        len,
-                        took: now.duration_since(begun),
-                        key: self.key,
-                    },
-                });
-                return Ok(());
+            Ok(table) => {
+                let way = Way {
+                    len,
+                    took: now.duration_since(begun),
+                    key: self.key,
+                };
+                return self.take(round, table, way, now);
             }
             Err(found) => cause_of(found, broken, len),
         };
@@ -182,6 +177,29 @@ impl Inquiry {
             self.key = round.ring().place_after(self.key);
             return self.connect(round, token);
         }
+        Ok(())
+    }
+
+    /// Takes an answer that was there at this moment.
+    fn take(
+        &mut self,
+        round: &Round,
+        table: (Vec<u8>, Roster, UserEvents),
+        way: Way,
+        at: Instant,
+    ) -> Result<(), Failure> {
+        let alloc = round.alloc();
+        let (stream, roster, events) = table;
+        let unlisted = Unlisted::of_stream(alloc, &stream, &roster, at)?;
+        self.state = State::Answered(Answer {
+            host: String::from_str(alloc, &self.host)?,
+            stream,
+            roster,
+            unlisted,
+            events,
+            at,
+            way,
+        });
         Ok(())
     }
 }

@@ -1,13 +1,14 @@
 //! What members that are followed answered, as metrics in Prometheus' text format.
 
 use crate::NAME;
+use crate::asked::ask::Answer;
 use crate::asked::follow::Followed;
+use crate::asked::unlisted::{FORGOTTEN, MAX_KEPT};
 use crate::text::said::said;
 use crate::text::texts::name_text;
 use crate::text::written::Text;
 use crate::view::agreement::{Voice, differing, opinions_in};
 use crate::view::directory::copy_of;
-use crate::view::known::Known;
 use memberlist_view::MemberName;
 use std::alloc::{AllocError, Global};
 use std::collections::BTreeMap;
@@ -18,38 +19,41 @@ use swim_pack::write_whole;
 use swim_program::Failure;
 
 /// The words for what a member can change to.
-const STATES: [&str; 5] = ["alive", "suspect", "dead", "left", "absent"];
+const STATES: [&str; 6] = ["alive", "suspect", "dead", "left", FORGOTTEN, "absent"];
 
 /// How often each name changed to which state, at any of the members.
 #[derive(Drop)]
 pub(crate) struct Tally {
-    counts: BTreeMap<MemberName, [u64; 5]>,
+    counts: BTreeMap<MemberName, [u64; 6]>,
+    /// How many changes of further names were not counted.
+    surplus: u64,
 }
 
 impl Tally {
     pub(crate) fn new(alloc: Global) -> Tally {
         Tally {
             counts: BTreeMap::new(alloc),
+            surplus: 0,
         }
     }
 
-    /// Counts that a name changed to what is now said about it, or to being absent.
+    /// Counts that a name changed to this state, unless it is one name too many.
     pub(crate) fn count(
         &mut self,
         alloc: Global,
         name: &MemberName,
-        is: Option<&Known>,
+        state: &str,
     ) -> Result<(), AllocError> {
-        let place = match is.map(|known| known.kind) {
-            Some(Kind::Alive) => 0,
-            Some(Kind::Suspect) => 1,
-            Some(Kind::Confirm) => 2,
-            Some(Kind::Leave) => 3,
-            None => 4,
-        };
-        let mut counts = self.counts.get(name).copied().unwrap_or([0; 5]);
-        if let Some(count) = counts.get_mut(place) {
-            *count = count.saturating_add(1);
+        let noted = self.counts.get(name).copied();
+        if noted.is_none() && self.counts.len() >= MAX_KEPT {
+            self.surplus = self.surplus.saturating_add(1);
+            return Ok(());
+        }
+        let mut counts = noted.unwrap_or([0; 6]);
+        for (word, count) in STATES.iter().zip(counts.iter_mut()) {
+            if *word == state {
+                *count = count.saturating_add(1);
+            }
         }
         self.counts.insert(copy_of(alloc, name)?, counts)?;
         Ok(())
@@ -118,6 +122,7 @@ pub(crate) fn metrics_of(
     write_down(&mut page, followed);
     write_agreement(&mut page, followed)?;
     write_tally(&mut page, tally);
+    write_surplus(&mut page, followed, tally);
     page.text.end()
 }
 
@@ -169,39 +174,59 @@ fn write_members(page: &mut Page, followed: &[Followed]) {
             for state in ["alive", "suspect", "dead", "left"] {
                 let names = answer.roster.iter();
                 let count = names.filter(|(_, known)| known.state() == state).count();
-                page.number(
-                    "swimwatch_members",
-                    &[("member", &member.host), ("state", state)],
-                    count as u64,
-                );
+                write_count(page, &member.host, state, count);
             }
+            let count = answer.unlisted.forgotten.len();
+            write_count(page, &member.host, FORGOTTEN, count);
         }
     }
 }
 
-/// Adds each name that a member has as suspected or dead.
+fn write_count<'a>(page: &mut Page, member: &'a str, state: &'a str, count: usize) {
+    let labels = [("member", member), ("state", state)];
+    page.number("swimwatch_members", &labels, count as u64)
+}
+
+/// Adds each name that a member has as suspected, dead or forgotten. Of one that does not answer, its
+/// last answer counts, but for suspicions.
 fn write_down(page: &mut Page, followed: &[Followed]) {
-    let alloc = page.text.alloc();
     page.family(
         "swimwatch_member_down",
         "gauge",
-        "A name that the member has as suspected or dead.",
+        "A name that the member has as suspected, dead or forgotten.",
     );
     for member in followed {
-        if let Some(answer) = member.current() {
-            for (name, known) in answer.roster.iter() {
-                if matches!(known.kind, Kind::Suspect | Kind::Confirm) {
-                    let name = name_text(alloc, name);
-                    if let Some(name) = page.text.made(name) {
-                        write_name_down(page, &member.host, &name, known.state());
-                    }
-                }
-            }
+        if let Some(answer) = member.last() {
+            write_listed_down(page, answer, member.current().is_some());
+            write_forgotten_down(page, answer);
         }
     }
 }
 
-fn write_name_down<'a>(page: &mut Page, member: &'a str, name: &'a str, state: &'a str) {
+/// Adds each name that a table has as dead, and those that it has as suspected, if they are shown.
+fn write_listed_down(page: &mut Page, answer: &Answer, suspects: bool) {
+    for (name, known) in answer.roster.iter() {
+        if known.kind == Kind::Confirm || (suspects && known.kind == Kind::Suspect) {
+            write_name_down(page, &answer.host, name, known.state());
+        }
+    }
+}
+
+/// Adds each name that is forgotten.
+fn write_forgotten_down(page: &mut Page, answer: &Answer) {
+    for (name, _) in answer.unlisted.forgotten.iter() {
+        write_name_down(page, &answer.host, name, FORGOTTEN);
+    }
+}
+
+fn write_name_down(page: &mut Page, member: &str, name: &MemberName, state: &str) {
+    let alloc = page.text.alloc();
+    if let Some(name) = page.text.made(name_text(alloc, name)) {
+        write_sample_down(page, member, &name, state);
+    }
+}
+
+fn write_sample_down<'a>(page: &mut Page, member: &'a str, name: &'a str, state: &'a str) {
     let labels = [("member", member), ("name", name), ("state", state)];
     page.number("swimwatch_member_down", &labels, 1)
 }
@@ -245,6 +270,22 @@ fn write_tally(page: &mut Page, tally: &Tally) {
             }
         }
     }
+}
+
+/// Adds how often a name was one too many.
+fn write_surplus(page: &mut Page, followed: &[Followed], tally: &Tally) {
+    page.family(
+        "swimwatch_surplus_total",
+        "counter",
+        "How often a name was not kept or counted, beyond 10000 names.",
+    );
+    let mut count = tally.surplus;
+    for member in followed {
+        if let Some(answer) = member.last() {
+            count = count.saturating_add(answer.unlisted.surplus);
+        }
+    }
+    page.number("swimwatch_surplus_total", &[], count);
 }
 
 /// Writes a file anew, so that who reads it sees the old text or the new one: a file beside it, with
