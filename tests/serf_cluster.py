@@ -6,6 +6,7 @@
 #   members         a line of JSON for each answer of `serf members`: when it was asked for, when it was there, of whom
 #   queries         a line for each query: the name, and how many acks and answers `serf query` or `serf keys` had
 #   pulled, events  what swimwatch PROGRAM pulled from a member in the end
+#   end             what Serf said of the members then, of the cluster with keys, of which one was killed a while before
 #   log-N, said     what the agents and the commands said
 import base64, json, os, signal, subprocess, sys, threading, time
 
@@ -165,6 +166,19 @@ def sealed():
     serf(2, "leave")
     time.sleep(2)
 
+def forgotten(n):
+    """Kills a member, and waits until it is in memberlist's table no more: half a minute after its death, when all members
+    were probed once more. Leaves what Serf says of the members."""
+    kill(n)
+    for _ in range(60):
+        told = serf(1, "members", "-format=json")
+        if {member["name"]: member["status"] for member in json.loads(told)["members"]}["%s-%d" % (name, n)] == "failed":
+            break
+        time.sleep(0.5)
+    time.sleep(36)
+    with open(path("end"), "w") as out:
+        print(serf(1, "members", "-format=json"), file=out)
+
 # the first process of a namespace is ended by no signal that it does not handle
 signal.signal(signal.SIGALRM, lambda *_: print("the cluster took too long", flush=True) or os._exit(1))
 signal.alarm(100)
@@ -185,6 +199,8 @@ with open(path("members"), "w") as out:
 for tcpdump in captures:
     tcpdump.send_signal(signal.SIGINT)
     tcpdump.wait()
+if kind == "sealed":
+    forgotten(3)
 for file, words in ("pulled", []), ("events", ["--events"]):
     words = words + ["--key-file", path("keys")] if kind == "sealed" else words
     subprocess.run([program, "pull", *words, "10.99.0.11"], stdout=open(path(file), "wb"), stderr=subprocess.STDOUT)
