@@ -244,11 +244,12 @@ fn silent_targets(scene: &Scene, from: u64) -> Result<Vec<Member>, AllocError> {
 }
 
 /// Whether one of the probes was refused, or something came from the targets of more than a fifth of
-/// them: a connection that is dialled before all is over may be answered after it.
+/// those that were seen: a connection that is dialled before all is over may be answered after it.
 fn are_answered(cases: &[&Case]) -> bool {
+    let seen = cases.iter().filter(|case| case.is_seen).count();
     let answered = cases.iter().filter(|case| is_answered(case)).count();
     let is_refused = cases.iter().any(|case| case.is_refused());
-    is_refused || cases.len() < answered.saturating_mul(5)
+    is_refused || seen < answered.saturating_mul(5)
 }
 
 /// Whether something came from the target of a probe.
