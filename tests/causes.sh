@@ -65,7 +65,7 @@ caused() {
 }
 
 if has_xz > /dev/null; then
-    for each in accuser delay hang kill kill4 loss50in onewayin partition restart rollterm serfmsgs; do
+    for each in accuser delay hang hang4 kill kill4 loss50in onewayin partition restart rollterm serfmsgs; do
         caused "$each"
     done
 
