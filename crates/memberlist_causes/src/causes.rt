@@ -3,6 +3,7 @@
 use crate::chapter::Chapter;
 use crate::diagnosis::diagnose;
 use crate::facts::Facts;
+use crate::numbers::Ping;
 use crate::restarts::Restart;
 use crate::words::{Saying, Word};
 use crate::{Case, Episode, Members, News};
@@ -117,7 +118,9 @@ impl Causes {
             return Ok(());
         };
         if let Saying::Ping(number) = saying {
-            self.facts.restarts.ping(member, time, number)?;
+            self.facts
+                .restarts
+                .ping(member, from, Ping { time, number })?;
         }
         let to = self.facts.members.at(to);
         self.facts.words.note(member, Word { time, to, saying })

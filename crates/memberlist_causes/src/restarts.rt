@@ -2,11 +2,12 @@
 
 use crate::contacts::{Answer, Contacts};
 use crate::evidence::{Evidence, Numbers};
-use crate::numbers::{Ping, anew, goes_on};
+use crate::numbers::{Ping, anew};
 use crate::trouble::{Of, Trouble};
 use crate::{Cause, Member};
 use std::alloc::{AllocError, Global};
 use std::collections::{BTreeMap, VecDeque};
+use std::net::SocketAddr;
 
 /// How long a member may be away that nobody suspects meanwhile (own), in microseconds.
 const UNNOTICED: u64 = 12_000_000;
@@ -23,20 +24,11 @@ pub(crate) struct Restart {
     pub(crate) after: u64,
 }
 
-/// The last ping under the name of a member.
-#[derive(Clone, Copy)]
-struct Last {
-    ping: Ping,
-    /// The last number before the numbers began anew, if they did.
-    before: Option<u32>,
-    /// Whether two processes were seen to have the name at one time.
-    is_shared: bool,
-}
-
-/// The last ping of each member, and those that began anew and were not told of.
+/// The last ping from each endpoint of a member, and those that began anew and were not told of. Two
+/// processes with one name have two endpoints, and neither began anew.
 #[derive(Drop)]
 pub(crate) struct Restarts {
-    last: BTreeMap<Member, Last>,
+    last: BTreeMap<SocketAddr, Ping>,
     pub(crate) all: VecDeque<Restart>,
 }
 
@@ -49,40 +41,29 @@ impl Restarts {
         }
     }
 
-    /// Takes in a ping of a member. Where the numbers of the process before go on beside the new ones,
-    /// two processes have the name, and none began anew.
-    pub(crate) fn ping(&mut self, of: Member, time: u64, number: u32) -> Result<(), AllocError> {
-        let ping = Ping { time, number };
-        let mut last = self.last.get(&of).copied().unwrap_or(Last {
-            ping,
-            before: None,
-            is_shared: false,
-        });
-        if number < last.ping.number {
-            let Some(Numbers::Anew { before, after }) = anew(last.ping, ping) else {
+    /// Takes in a ping of a member, from this endpoint.
+    pub(crate) fn ping(
+        &mut self,
+        of: Member,
+        from: SocketAddr,
+        ping: Ping,
+    ) -> Result<(), AllocError> {
+        let Some(before) = self.last.get(&from).copied() else {
+            self.last.insert(from, ping)?;
+            return Ok(());
+        };
+        if ping.number == before.number {
+            return Ok(());
+        }
+        if ping.number < before.number {
+            let Some(Numbers::Anew { before, after }) = anew(before, ping) else {
                 return Ok(());
             };
-            last.before = Some(last.ping.number);
-            if !last.is_shared && after.saturating_sub(before) <= UNNOTICED {
+            if after.saturating_sub(before) <= UNNOTICED {
                 self.all.push_back(Restart { of, before, after })?;
             }
-        } else if goes_on(last.before, last.ping, ping) {
-            last.is_shared = true;
-            self.forget(of)?;
         }
-        last.ping = ping;
-        self.last.insert(of, last)?;
-        Ok(())
-    }
-
-    /// Forgets those of a member.
-    fn forget(&mut self, of: Member) -> Result<(), AllocError> {
-        for _ in 0..self.all.len() {
-            match self.all.pop_front() {
-                Some(restart) if restart.of != of => self.all.push_back(restart)?,
-                _ => {}
-            }
-        }
+        self.last.insert(from, ping)?;
         Ok(())
     }
 
