@@ -95,6 +95,14 @@ for line in sys.stdin:
         rm -rf members_of
     done
 
+    # two clusters with the same names, each agent with a counter of its own; web-3 of one was killed
+    echo 'web-3 process gone' > wanted
+    told captures/ports/all.pcap > found
+    check 'why in a capture of two clusters'
+    : > wanted
+    "$program" why captures/ports/all.pcap 2> err | grep 'no suspicion of its own' > found
+    check 'no restart is told of members of two clusters'
+
     # nothing was done to it
     python3 -m tarfile -e "$causes/steady.tar.xz" members_of > err 2>&1
     : > wanted
