@@ -95,6 +95,13 @@ for line in sys.stdin:
         rm -rf members_of
     done
 
+    # a second agent began with the name of web-3, which went on
+    rm -rf members_of
+    python3 -m tarfile -e "$causes/dup.tar.xz" members_of > err 2>&1
+    : > wanted
+    "$program" why members_of/web-1.pcap > found 2> err
+    check 'no restart is told where a second agent takes a name'
+
     # two clusters with the same names, each agent with a counter of its own; web-3 of one was killed
     echo 'web-3 process gone' > wanted
     told captures/ports/all.pcap > found
