@@ -12,8 +12,8 @@ sys.dont_write_bytecode = True
 # Where the scripts write: what rt says goes elsewhere.
 OUT = sys.stdout
 TOP = os.path.dirname(os.path.dirname(os.path.realpath(__file__)))
-# The prover's allocator gives no memory back to the system while it runs: a tenth of the time is saved, and the most that
-# a proof holds grows by as much.
+# The prover's allocator gives no memory back to the system while it runs: where that was tried, a proof took a tenth
+# less time and held 7 % more.
 os.environ.setdefault("MIMALLOC_PURGE_DELAY", "-1")
 
 
